@@ -64,7 +64,7 @@ use Rattle.rz_driver.specs.Endings.{StandsForLog}
 use Rattle.rz_driver.specs.Journals.{KeepsLog, journal_place, HasJournal}
 use Rattle.rz_driver.specs.Pictures.{AreBytes, IsPicture, KnowsLengths}
 use Rattle.rz_driver_actors.specs.Agendas.{IsEmptyAgenda}
-use Rattle.rz_driver.specs.Worlds.{exact_if, is_exact, left_behind, agenda_in, world_of, numbers_in, IsDriver, GoesAfter, Holds}
+use Rattle.rz_driver.specs.Worlds.{is_known, left_behind, agenda_in, world_of, numbers_in, IsDriver, GoesAfter, Holds}
 use Rattle.rz_driver.proofs.KeptCalls.{told-calls}
 use Rattle.rz_driver.proofs.MadeLemmas.{own-cells, empty-in, empty-agendas}
 use Rattle.rz_driver.proofs.NewPictures.{no-hands}
@@ -296,15 +296,15 @@ module _ {D : Type 0} {G : Ghosts D} (v : Volume) (rules : IsVolume v) (export :
             found-front (y ∷ front) more zero x is = is
             found-front (y ∷ front) more (suc k) x is = found-front front more k x is
 
-    after-it : (old : List Event) → length old < 2 ^ 63 + 512 → GoesAfter d (left_behind counts old)
-    after-it old short = record { anew = λ no. (let was = over.earlier in absurd (cc)); short = short }
+    after-it : (old : List Event) → length old < 2 ^ 63 + 512 → GoesAfter (left_behind counts old)
+    after-it old short = record { short = short }
 
     -- over disks that do not tell
     pub over-untold : G.tells ≡ false → (old : List Event) → length old < 2 ^ 63 + 512 → Holds d (left_behind counts old)
     over-untold untold old short = (
       metered,
       λ told few. absurd (cc),
-      λ exact. (let not : exact_if false true ≡ true = subst (λ (e : Bool). exact_if false e ≡ true) over.earlier (subst (λ (t : Bool). exact_if t d.shared.log.earlier ≡ true) untold exact) in absurd (cc)),
+      λ known. (let never : false ≡ true = subst (λ (t : Bool). is_known t (left_behind counts old) ≡ true) untold known in absurd (cc)),
       after-it old short,
     )
 

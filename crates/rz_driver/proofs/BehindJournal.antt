@@ -34,7 +34,7 @@ use Rattle.rz_driver_actors.specs.declared.shared.Shared.{Shared}
 use Rattle.rz_driver.specs.Formatted.{IsBehindJournal, IsJournalBack, AreBackWithJournal, IsFault, IsJournalRefused}
 use Rattle.rz_driver.specs.Journals.{KeepsLog, journal_place, HasJournal}
 use Rattle.rz_driver.specs.Pictures.{AreBytes, IsPicture}
-use Rattle.rz_driver.specs.Worlds.{anew, exact_if, is_exact, world, world_of, numbers_in, IsDriver, HasPicture, Holds}
+use Rattle.rz_driver.specs.Worlds.{anew, world, world_of, numbers_in, IsDriver, HasPicture, Holds}
 use Rattle.rz_driver.proofs.ExportWords.{bytes-none}
 use Rattle.rz_driver.proofs.KeptCalls.{no-calls}
 use Rattle.rz_driver.proofs.NodeOrders.{ready-with}
@@ -160,10 +160,7 @@ module _ {D : Type 0} {G : Ghosts D} (journal : D) (d e : Driver D G) (behind : 
           }
 
       pub behind-holds : Holds d (anew before) → Holds e (anew now)
-      behind-holds held = (metered held.0, picture held.1, λ exact. has-journal, record { anew = λ no. refl; short = held.3.short })
-
-  pub behind-exact : is_exact d ≡ true → is_exact e ≡ true
-  behind-exact exact = ap (λ (p : Shared (UnderFuse D) D). exact_if G.tells p.log.earlier) behind.shared ∙ exact
+      behind-holds held = (metered held.0, picture held.1, λ exact. has-journal, record { short = held.3.short })
 
 -- ---- the disks that come back
 

@@ -16,7 +16,7 @@ use Rattle.rz_driver.specs.declared.driver.Driver.{Driver}
 use Rattle.rz_driver.specs.Continued.{AreLeft, EndsWhole}
 use Rattle.rz_driver.specs.Endings.{EndsAsRefused, StandsForLog}
 use Rattle.rz_driver.specs.Journals.{journal_place}
-use Rattle.rz_driver.specs.Worlds.{numbers_in, is_exact, tells-exactly, Holds, Leaves}
+use Rattle.rz_driver.specs.Worlds.{numbers_in, is_known, tells-known, Holds, Leaves}
 use Rattle.rz_driver.proofs.DriverPictures.{leaves-named, leaves-right, leaves-short}
 use Rattle.rz_driver.proofs.JournalEndings.{stands-closed, ends-closed, full-stands}
 use Rattle.rz_driver.proofs.JournalLemmas.{leaves-journal}
@@ -53,10 +53,10 @@ module _ {D : Type 0} {G : Ghosts D} (d : Driver D G) (b : Before) (short : leng
 
   pub held-journal : Holds d b → (disk : D) → disk_of d.shared.export ≡ Some disk → IsTrue G.tells → StandsForLog (G.image disk) d.volume h
   held-journal held disk is told =
-      let journal = held.2 (tells-exactly d told) in
+      let journal = held.2 (tells-known G.tells b told) in
       stands-closed G.tells G.meter G.image (b.counts (journal_place d)) d.volume h d.shared.export disk journal.volume is (journal.keeps (has-few d b (inl held) short)) told
 
-  pub left-journal : Leaves d b → is_exact d ≡ true → (disk : D) → disk_of d.shared.export ≡ Some disk
+  pub left-journal : Leaves d b → is_known G.tells b ≡ true → (disk : D) → disk_of d.shared.export ≡ Some disk
       → EndsAsRefused (refusal_of d.shared.export) G.tells (G.image disk) (b.counts (journal_place d)) (faults (G.meter disk)) d.volume h
   left-journal left exact disk is =
       let journal = leaves-journal d b left exact in
@@ -66,7 +66,7 @@ module _ {D : Type 0} {G : Ghosts D} (d : Driver D G) (b : Before) (short : leng
   whole-journal (inl held) disk is told = held-journal held disk is told
   whole-journal (inr (left, full)) disk is told =
       full-stands G.tells (G.image disk) (b.counts (journal_place d)) (faults (G.meter disk)) d.volume h
-      (subst (λ (r : Option JournalRefusal). EndsAsRefused r G.tells (G.image disk) (b.counts (journal_place d)) (faults (G.meter disk)) d.volume h) full (left-journal left (tells-exactly d told) disk is)) told
+      (subst (λ (r : Option JournalRefusal). EndsAsRefused r G.tells (G.image disk) (b.counts (journal_place d)) (faults (G.meter disk)) d.volume h) full (left-journal left (tells-known G.tells b told) disk is)) told
 
   -- what a play left that ended between two turns, or where the journal was full
   pub whole-disks : IsLogLaw G.image → EndsWhole d b → is_journaled d.shared.export ≡ true → IsTrue G.tells → (disks : List D) → disks ≡ disks_of d.shared.servers.items ++ option_to_list (disk_of d.shared.export)
@@ -81,5 +81,5 @@ module _ {D : Type 0} {G : Ghosts D} (d : Driver D G) (b : Before) (short : leng
         disks_are = are ∙ ap (λ (o : Option D). row ++ option_to_list o) disk.1;
         each = left-imaged d b law left told (has-few d b left short);
         last = whole-journal ended disk.0 disk.1 told;
-        bytes = (leaves-journal d b left (tells-exactly d told)).bytes told;
+        bytes = (leaves-journal d b left (tells-known G.tells b told)).bytes told;
       }

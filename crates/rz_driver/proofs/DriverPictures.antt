@@ -31,8 +31,8 @@ use Rattle.rz_play_laws.proofs.Turning.{in-runs}
 use Rattle.rz_restart_laws.specs.Calls.{HasLength}
 use Rattle.rz_driver_asks.specs.Asked.{call_asked}
 use Rattle.rz_log.specs.Logged.{Logged}
-use Rattle.rz_driver_asks.specs.Parts.{IsUnbegun}
 use Rattle.rz_player.specs.Behind.{Before, behind}
+use Rattle.rz_block_laws.specs.Laws.{IsFittingLaw}
 use Rattle.rz_block_laws.specs.Turns.{IsLastingLaw, HasInHand}
 use Rattle.rz_driver.specs.declared.driver.Driver.{Driver}
 use Rattle.rz_driver_actors.specs.declared.agenda.Agenda.{Agenda}
@@ -40,16 +40,17 @@ use Rattle.rz_nodes.specs.declared.formatting.Server.{Server}
 use Rattle.rz_driver_nodes.specs.Meters.{AreMetered, AreCounted, CarriesCounts}
 use Rattle.rz_driver_nodes.specs.Images.{AreImaged, IsRight, KeepsRow, SparesRow, fused_image}
 use Rattle.rz_driver_actors.specs.Hands.{HasTrueHand, IsTrueAgenda, KeepsPicture, SparesPicture}
-use Rattle.rz_driver.specs.Pictures.{IsPicture, KnowsLengths}
+use Rattle.rz_driver.specs.Pictures.{AreBytes, IsPicture, KnowsLengths}
 use Rattle.rz_driver_actors.specs.Agendas.{HasLayout, agenda_of, work_in}
 use Rattle.rz_driver_nodes.specs.Servers.{state_in, numbers_of}
-use Rattle.rz_driver.specs.Worlds.{place_of, world, world_of, numbers_in, exact_if, HasPicture, HasRightDisks, Holds, Leaves}
+use Rattle.rz_driver.specs.Worlds.{place_of, world, world_of, numbers_in, HasPicture, HasRightDisks, Holds, Leaves}
+use Rattle.rz_driver_nodes.proofs.MessagePictures.{never-bad}
 use Rattle.rz_driver_nodes.proofs.MeterLemmas.{metered-counts, named-vector}
 use Rattle.rz_driver_nodes.proofs.PictureLemmas.{all-then, GrowsBy, grows-behind, grown-short, are-right}
 use Rattle.rz_driver_nodes.proofs.Rows.{all-set, all-at}
 use Rattle.rz_driver.proofs.KeptCalls.{asked-length}
 use Rattle.rz_driver.proofs.WorldLemmas.{agenda-here}
-use Rattle.rz_driver.proofs.TurnLemmas.{AreTexts}
+use Rattle.rz_driver.proofs.TurnLemmas.{AreTexts, IsGood}
 use Rattle.rz_driver.proofs.LengthLemmas.{at-work-knows, lengths-grow, lengths-turn}
 use Rattle.rz_driver.proofs.TextLemmas.{right, short-text}
 
@@ -96,12 +97,9 @@ module _ (v : Volume) (lasting : IsLastingLaw v) (h h' : List Event) (grown : Gr
 
 -- ---- a turn
 
-not-earlier : (earlier : Bool) → exact_if false earlier ≡ true → earlier ≡ false
-not-earlier true is = absurd (cc)
-not-earlier false is = refl
-
-is-not : {A : Type 0} (b : Bool) → b ≡ true → b ≡ false → A
-is-not b one other = absurd (cc)
+good-hand : (v : Volume) → IsFittingLaw v → (f : Facts) (o : Option Machine) → HasTrueHand v f o → IsGood o
+good-hand v fitting f None hand = tt
+good-hand v fitting f (Some m) hand = never-bad v fitting f m hand
 
 module _ {D : Type 0} {G : Ghosts D} (by : Actor) (place : ℕ) (d f : Driver D G) (is : d ≡ f) (log : Logged) (a0 a : Agenda) (at : place_of by ≡ Some place) (here : slice_get d.agendas.items place ≡ Some a0) (layout : HasLayout d.volume.layout a.machine)
     (taken : agenda_of a ≡ at_work (agenda_of a0)) (events : log.events ≡ d.shared.log.events) (hand : (v : Volume) (f : Facts) → HasTrueHand v f a0.machine → HasTrueHand v f a.machine) (working : WorkingLaw) (old : List Event) where
@@ -132,37 +130,31 @@ module _ {D : Type 0} {G : Ghosts D} (by : Actor) (place : ℕ) (d f : Driver D 
       )
 
   -- what it says of a text is so by the whole log, where disks tell
-  told-text : Picture → (m : Machine) (said : Saying) → a.machine ≡ Some m → ask_of m.layout m.work ≡ Say said
-      → (text_of m ≡ text_said (facts log.events) said) ⊎ ((log.earlier ≡ true) × IsUnbegun (facts log.events) said) → text_of m ≡ text_said (facts (log.events ++ old)) said
-  told-text was m said has asks said_so =
+  told-text : Picture → AreBytes (facts (h ++ old)) → AreTexts a.machine (log.events ++ old)
+  told-text was bytes m said has asks =
       let v = d.volume in
       let agenda : IsTrueAgenda v (facts (log.events ++ old)) by (Some m) = subst (λ (o : Option Machine). IsTrueAgenda v (facts (log.events ++ old)) by o) has (known was).0 in
       let knows_there = subst (λ (s : APlayer). KnowsLengths (facts (h ++ old)) s.work) at-agenda (at-work-knows (facts (h ++ old)) ((world_of d).agendas by) (was.lengths by)) in
       let knows_here : KnowsLengths (facts (log.events ++ old)) (work_in a.machine) = subst (λ (k : List Event). KnowsLengths (facts (k ++ old)) (work_in a.machine)) (sym events) knows_there in
       let knows : KnowsLengths (facts (log.events ++ old)) m.work = subst (λ (o : Option Machine). KnowsLengths (facts (log.events ++ old)) (work_in o)) has knows_here in
       let legal = subst (λ (k : List Event). IsLegalInRuns v (k ++ old)) (sym events) (in-runs v old (behind old (world_of d)) was.fine) in
-      let named : text_of m ≡ machine.text_said m.block said = ap (text_asked m.block) asks in
-      let so : (machine.text_said m.block said ≡ text_said (facts log.events) said) ⊎ ((log.earlier ≡ true) × IsUnbegun (facts log.events) said) = elim said_so [ inl same ↦ inl (sym named ∙ same) | inr unbegun ↦ inr unbegun ] in
-      named ∙ right v.layout log.events old log.earlier m.block m.pairs was.bytes (short-text v (log.events ++ old) legal) said m.layout m.work agenda.true_to.hand knows asks so
+      let texts = subst (λ (k : List Event). AreBytes (facts (k ++ old))) (sym events) bytes in
+      ap (text_asked m.block) asks ∙ right v.layout (log.events ++ old) m.block m.pairs texts (short-text v (log.events ++ old) legal) said m.layout m.work agenda.true_to.hand knows asks
 
-  pub turn-texts : (log.earlier ≡ false → old ≡ []) → length old < 2 ^ 63 + 512 → length log.events ≤ 2 ^ 62 → HasPicture d old → exact_if G.tells log.earlier ≡ true → AreTexts a.machine log.earlier log.events old
-  turn-texts anew short few picture exact m said has asks said_so = go G.tells refl
-    where
-      room : length (h ++ old) < 2 ^ 64 - 1
-      room =
-          let whole = length-append h old in
-          let same : length log.events ≡ length h = ap length events in
-          omega (arith, whole, same, short, few)
+  module _ (short : length old < 2 ^ 63 + 512) (few : length log.events ≤ 2 ^ 62) (picture : HasPicture d old) where
+    there : IsTrue G.tells → Picture
+    there told = picture told (let whole = length-append h old in let same : length log.events ≡ length h = ap length events in omega (arith, whole, same, short, few))
 
-      go : (tells : Bool) → G.tells ≡ tells → text_of m ≡ text_said (facts (log.events ++ old)) said
-      go true told = told-text (picture told room) m said has asks said_so
-      go false untold =
-          let new : log.earlier ≡ false = not-earlier log.earlier (subst (λ (t : Bool). exact_if t log.earlier ≡ true) untold exact) in
-          let whole : log.events ++ old ≡ log.events = ap (λ (k : List Event). log.events ++ k) (anew new) ∙ append-nil log.events in
-          elim said_so [
-            | inl same ↦ same ∙ ap (λ (k : List Event). text_said (facts k) said) (sym whole)
-            | inr unbegun ↦ is-not log.earlier unbegun.0 new
-          ]
+    pub turn-texts : (IsTrue G.tells → AreBytes (facts (h ++ old))) → IsTrue G.tells → AreTexts a.machine (log.events ++ old)
+    turn-texts bytes told = told-text (there told) (bytes told)
+
+    -- after its turn it does not say that records fit no block
+    pub turn-good : (b : Agenda) (ys : List (Server (UnderFuse D))) (h' : List Event) → ((v : Volume) → IsFittingLaw v) → (IsTrue G.tells → KeepsPicture image by a.machine b.machine d.shared.servers.items log.events ys h')
+        → IsTrue G.tells → IsGood b.machine
+    turn-good b ys h' fitting keeps told =
+        let v = d.volume in
+        let k = known (there told) in
+        good-hand v (fitting v) (facts (h' ++ old)) b.machine (keeps told v old k.0 k.1).0
 
   -- the call that it asks for tells the length of its text, however the log grows
   pub turn-lengths : ((v : Volume) → IsOwnProper v) → HasPicture d old → IsTrue G.tells → length (log.events ++ old) < 2 ^ 64 - 1

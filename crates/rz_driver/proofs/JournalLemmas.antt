@@ -39,7 +39,7 @@ use Rattle.rz_driver.specs.Endings.{AreCallsOf}
 use Rattle.rz_driver_actors.specs.Stores.{IsSameStore, IsExportTurn, Asks, AsksNothing}
 use Rattle.rz_driver.specs.Journals.{KeepsLog, EndsLog, journal_place, HasJournal, LeavesJournal}
 use Rattle.rz_driver.specs.Pictures.{AreBytes}
-use Rattle.rz_driver.specs.Worlds.{exact_if, is_exact, world_of, GoesAfter, HasPicture, Leaves}
+use Rattle.rz_driver.specs.Worlds.{is_known, world_of, HasPicture, Leaves}
 use Rattle.rz_driver_actors.proofs.ExportEvents.{node-stays, noted-stays}
 use Rattle.rz_driver_actors.proofs.StoreLemmas.{same-store, ends-with-it}
 use Rattle.rz_driver.proofs.ExportWords.{same-behind, bytes-same, bytes-more, event-bytes}
@@ -59,19 +59,12 @@ arming-stays n passes pick h h' log_is = ap (of_word Export) log_is ∙ node-sta
 
 -- ---- a driver
 
--- whether there were earlier runs stays told
-pub exact-still : {D : Type 0} {G : Ghosts D} (d e : Driver D G) → e.shared.log.earlier ≡ d.shared.log.earlier → is_exact e ≡ is_exact d
-exact-still {G = G} d e same = ap (exact_if G.tells) same
-
-pub goes-after : {D : Type 0} {G : Ghosts D} (d e : Driver D G) → e.shared.log.earlier ≡ d.shared.log.earlier → (b : Before) → GoesAfter d b → GoesAfter e b
-goes-after d e same b after = record { anew = λ no. after.anew (sym same ∙ no); short = after.short }
-
 -- its log is one of several runs
 picture-legal : {D : Type 0} {G : Ghosts D} (d : Driver D G) (old : List Event) → HasPicture d old → IsTrue G.tells → length (d.shared.log.events ++ old) < 2 ^ 64 - 1 → IsLegalInRuns d.volume (d.shared.log.events ++ old)
 picture-legal d old picture told few = in-runs d.volume old (behind old (world_of d)) (picture told few).fine
 
-module _ {D : Type 0} {G : Ghosts D} (d e : Driver D G) (volume : e.volume ≡ d.volume) (earlier : e.shared.log.earlier ≡ d.shared.log.earlier) (store : IsSameStore d.shared.export e.shared.export) (b : Before) (h : List Event) (log : h ≡ d.shared.log.events)
-    (has : is_exact d ≡ true → HasJournal d b) (exact : is_exact e ≡ true) where
+module _ {D : Type 0} {G : Ghosts D} (d e : Driver D G) (volume : e.volume ≡ d.volume) (store : IsSameStore d.shared.export e.shared.export) (b : Before) (h : List Event) (log : h ≡ d.shared.log.events)
+    (has : is_known G.tells b ≡ true → HasJournal d b) (known : is_known G.tells b ≡ true) where
   abbrev h' : List Event
   h' = e.shared.log.events
 
@@ -79,7 +72,7 @@ module _ {D : Type 0} {G : Ghosts D} (d e : Driver D G) (volume : e.volume ≡ d
   Keeps = KeepsLog G.tells G.meter G.image (b.counts (journal_place d))
 
   had : HasJournal d b
-  had = has (sym (exact-still d e earlier) ∙ exact)
+  had = has known
 
   volume-there : (export_in e.shared.export).volume ≡ e.volume
   volume-there = store.volume ∙ had.volume ∙ sym volume
@@ -163,26 +156,26 @@ module _ {D : Type 0} {G : Ghosts D} (d e : Driver D G) (volume : e.volume ≡ d
       (subst (λ (m : Metadata D). length (h ++ b.log) < 2 ^ 64 - 1 → Keeps m (h ++ b.log)) (sym export) had-calls))
 
 -- where nothing was asked of the export
-module _ {D : Type 0} {G : Ghosts D} (d e : Driver D G) (volume : e.volume ≡ d.volume) (earlier : e.shared.log.earlier ≡ d.shared.log.earlier) (export : e.shared.export ≡ d.shared.export) (b : Before) (has : is_exact d ≡ true → HasJournal d b) where
+module _ {D : Type 0} {G : Ghosts D} (d e : Driver D G) (volume : e.volume ≡ d.volume) (export : e.shared.export ≡ d.shared.export) (b : Before) (has : is_known G.tells b ≡ true → HasJournal d b) where
   stored : IsSameStore d.shared.export e.shared.export
   stored = same-store d.shared.export e.shared.export export
 
   -- a node was ordered something
-  pub journal-ordered : IsNoCall d.volume → HasPicture d b.log → GrowsBy d.shared.log.events e.shared.log.events → of_word Export e.shared.log.events ≡ of_word Export d.shared.log.events → is_exact e ≡ true → HasJournal e b
-  journal-ordered untold picture grown same exact = journal-no-more d e volume earlier stored b d.shared.log.events refl has exact picture grown untold export same
+  pub journal-ordered : IsNoCall d.volume → HasPicture d b.log → GrowsBy d.shared.log.events e.shared.log.events → of_word Export e.shared.log.events ≡ of_word Export d.shared.log.events → is_known G.tells b ≡ true → HasJournal e b
+  journal-ordered untold picture grown same known = journal-no-more d e volume stored b d.shared.log.events refl has known picture grown untold export same
 
   -- an actor was
-  pub journal-stays : e.shared.log.events ≡ d.shared.log.events → is_exact e ≡ true → HasJournal e b
-  journal-stays same exact = journal-as-it-was d e volume earlier stored b d.shared.log.events refl has exact same export
+  pub journal-stays : e.shared.log.events ≡ d.shared.log.events → is_known G.tells b ≡ true → HasJournal e b
+  journal-stays same known = journal-as-it-was d e volume stored b d.shared.log.events refl has known same export
 
-  pub journal-still : e.shared.log.events ≡ d.shared.log.events → is_exact e ≡ true → LeavesJournal e b
-  journal-still same exact = journal-ends d e volume earlier stored b d.shared.log.events refl has exact same
+  pub journal-still : e.shared.log.events ≡ d.shared.log.events → is_known G.tells b ≡ true → LeavesJournal e b
+  journal-still same known = journal-ends d e volume stored b d.shared.log.events refl has known same
       (ends-with-it G.tells G.meter G.image d.shared.export e.shared.export export)
 
 pub journal-left : {D : Type 0} {G : Ghosts D} (d : Driver D G) (b : Before) → HasJournal d b → LeavesJournal d b
 journal-left d b had = record { volume = had.volume; bytes = had.bytes; ends = λ few. (let keeps = had.keeps few in (keeps.0, keeps.1, inl keeps.2)) }
 
 -- however a play ended
-pub leaves-journal : {D : Type 0} {G : Ghosts D} (d : Driver D G) (b : Before) → Leaves d b → is_exact d ≡ true → LeavesJournal d b
-leaves-journal d b (inl held) exact = journal-left d b (held.2 exact)
-leaves-journal d b (inr left) exact = left.2 exact
+pub leaves-journal : {D : Type 0} {G : Ghosts D} (d : Driver D G) (b : Before) → Leaves d b → is_known G.tells b ≡ true → LeavesJournal d b
+leaves-journal d b (inl held) known = journal-left d b (held.2 known)
+leaves-journal d b (inr left) known = left.2 known

@@ -31,7 +31,6 @@ use Rattle.rz_driver_nodes.specs.Images.{AreImaged, HasImages, fused_image}
 use Rattle.rz_player.specs.Behind.{behind}
 use Rattle.rz_driver_actors.specs.Hands.{HasTrueHand}
 use Rattle.rz_driver.specs.Pictures.{IsPicture, KnowsLengths}
-use Rattle.rz_driver.specs.Worlds.{exact_if}
 use Rattle.rz_driver_actors.specs.Agendas.{IsEmptyAgenda}
 use Rattle.rz_driver_nodes.specs.Servers.{IsServer}
 
@@ -53,11 +52,6 @@ new-fine v = record {
   under_way = λ by ok. inl refl;
   todo = λ by. tt;
 }
-
--- a log that begins anew has each text of its play
-pub new-exact : (tells earlier : Bool) → earlier ≡ false → exact_if tells earlier ≡ true
-new-exact true earlier none = refl
-new-exact false earlier none = subst (λ (e : Bool). exact_if false e ≡ true) (sym none) refl
 
 -- an actor without a machine has nothing in hand
 no-hand : (v : Volume) (f : Facts) (o : Option Machine) → o ≡ None → HasTrueHand v f o

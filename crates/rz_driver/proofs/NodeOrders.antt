@@ -27,8 +27,7 @@ use Rattle.rz_script.specs.declared.line.Line.TheVariants as line
 use Rattle.rz_play.specs.World.{World}
 use Rattle.rz_play.specs.Turns.{answered}
 use Rattle.rz_player.specs.Behind.{behind}
-use Rattle.rz_play.specs.Lines.{IsAdminCall, noted}
-use Rattle.rz_play.specs.Free.{IsFreeStart, PlaysLineOver}
+use Rattle.rz_play.specs.Lines.{IsAdminCall, IsFreeStart, IsStartedAs, PlaysLineOver, noted}
 use Rattle.rz_driver.specs.declared.driver.Driver.{Driver}
 use Rattle.rz_driver_actors.specs.declared.shared.Shared.{Shared}
 use Rattle.rz_nodes.specs.declared.formatting.Server.{Server}
@@ -170,6 +169,7 @@ module _ {D : Type 0} {G : Ghosts D} (d : Driver D G) (ready : IsDriver d) (q : 
             (subst (λ (x : NodeState). IsNodeAnswer s.node.geometry.cells x ask.Start given) (sym here.1) o.order.given_is);
         answered = o.order.answered;
         state = o.after.node.state;
+        started = subst (λ (x : NodeState). IsStartedAs given x o.after.node.state) (sym here.1) o.order.started;
         next_is = λ i. record {
           nodes = nodes i;
           export = export_in (export i);

@@ -1,5 +1,5 @@
 -- An actor took a turn.
-use Rattle.std.proofs.Common.{◌≡◌, ℕ, ◌+◌, ◌<◌, ◌≤◌, List, [], ◌∷◌, map, length, set, get_or, Some, refl, sym, ◌∙◌, ap, subst, arith}
+use Rattle.std.proofs.Common.{◌≡◌, ℕ, Bool, true, false, IsTrue, ◌+◌, ◌<◌, ◌≤◌, List, [], ◌∷◌, ◌++◌, map, length, set, get_or, Some, refl, sym, ◌∙◌, ap, subst, arith}
 use Rattle.std.specs.Prelude.{slice_get}
 use Rattle.std.specs.List.{AllByRecursion}
 use Rattle.std.specs.FinMap.{get}
@@ -15,6 +15,7 @@ use Rattle.rz_events.specs.declared.keys.Actor.TheVariants.{Client, Rebuilder, A
 use Rattle.rz_events.specs.declared.events.Event.{Event}
 use Rattle.rz_play.specs.World.{World, Agenda as APlayer, at_work}
 use Rattle.rz_play.specs.Turns.{IsTurn}
+use Rattle.rz_play.specs.Free.{IsTurnOver}
 use Rattle.rz_driver.specs.declared.driver.Driver.{Driver}
 use Rattle.rz_driver_actors.specs.declared.agenda.Agenda.{Agenda}
 use Rattle.rz_driver_actors.specs.declared.shared.Shared.{Shared}
@@ -28,7 +29,7 @@ use Rattle.rz_driver.specs.Worlds.{place_of, agenda_in, world, world_of, AreLock
 use Rattle.rz_driver_nodes.proofs.Rows.{all-set, all-at}
 use Rattle.rz_driver.proofs.ReadyLemmas.{servers-after, numbers-after, agenda-after, locks-after}
 use Rattle.rz_player.specs.Behind.{behind}
-use Rattle.rz_driver.proofs.TurnLemmas.{AreTexts, turn-is}
+use Rattle.rz_driver.proofs.TurnLemmas.{AreTexts, IsGood, turn-is, free-turn-is}
 use Rattle.rz_driver.proofs.WorldLemmas.{client-place, rebuilder-place, agenda-here}
 
 place-low : (by : Actor) (q : ℕ) → place_of by ≡ Some q → q < 80
@@ -81,12 +82,25 @@ module _ {D : Type 0} {G : Ghosts D} (by : Actor) (place : ℕ) (d e : Driver D 
 -- and the world is that after the turn
 pub turned : {D : Type 0} {G : Ghosts D} (by : Actor) (place : ℕ) (d : Driver D G) (q : Shared (UnderFuse D) D) (log : Logged) (a0 a b : Agenda) → IsDriver d → place_of by ≡ Some place → slice_get d.agendas.items place ≡ Some a0 → place < length d.agendas.items
     → agenda_of a ≡ at_work (agenda_of a0) → IsAgenda d.volume.layout a → a.lock ≡ a0.lock → log.events ≡ d.shared.log.events → IsAct d.volume.layout by a b (record d.shared { log = log }) q
-    → (earlier : List Event) → AreTexts a.machine log.earlier log.events earlier
-    → (f : Driver D G) → d ≡ f → IsTurn f.volume by (behind earlier (world_of f)) (behind earlier (world q (set d.agendas.items place b) (d.turns + 1)))
-turned {D = D} {G = G} by place d q log a0 a b ready at here low taken fits kept events acts earlier texts f is =
+    → (earlier : List Event) → (IsTrue G.tells → AreTexts a.machine (log.events ++ earlier)) → (IsTrue G.tells → IsGood b.machine)
+    → (f : Driver D G) → d ≡ f → IsTurnOver f.volume by G.tells (behind earlier (world_of f)) (behind earlier (world q (set d.agendas.items place b) (d.turns + 1)))
+turned {D = D} {G = G} by place d q log a0 a b ready at here low taken fits kept events acts earlier texts good f is =
     let p : Shared (UnderFuse D) D = record d.shared { log = log } in
     let next : World = world q (set d.agendas.items place b) (d.turns + 1) in
     let first : world p d.agendas.items d.turns ≡ world_of d = ap (λ (h : List Event). record (world_of d) { log = h }) events in
-    subst (λ (x : Driver D G). IsTurn x.volume by (behind earlier (world_of x)) (behind earlier next)) is
-    (subst (λ (w : World). IsTurn d.volume by (behind earlier w) (behind earlier next)) first
-    (turn-is d.volume by d.agendas.items place d.turns at low a0 a here taken fits.machine p q earlier texts ready.locks ready.no_locks ready.servers kept b acts))
+    subst (λ (x : Driver D G). IsTurnOver x.volume by G.tells (behind earlier (world_of x)) (behind earlier next)) is
+    (subst (λ (w : World). IsTurnOver d.volume by G.tells (behind earlier w) (behind earlier next)) first (over G.tells texts good))
+  where
+    over : (tells : Bool) → (IsTrue tells → AreTexts a.machine (log.events ++ earlier)) → (IsTrue tells → IsGood b.machine)
+        → IsTurnOver d.volume by tells (behind earlier (world (record d.shared { log = log }) d.agendas.items d.turns)) (behind earlier (world q (set d.agendas.items place b) (d.turns + 1)))
+    over true texts good = turn-is d.volume by d.agendas.items place d.turns at low a0 a here taken fits.machine (record d.shared { log = log }) q earlier ready.locks ready.no_locks ready.servers kept b (texts refl) (good refl) acts
+    over false texts good = free-turn-is d.volume by d.agendas.items place d.turns at low a0 a here taken fits.machine (record d.shared { log = log }) q earlier ready.locks ready.no_locks ready.servers kept b acts
+
+-- over disks that tell their texts
+pub turned-told : {D : Type 0} {G : Ghosts D} (by : Actor) (place : ℕ) (d : Driver D G) (q : Shared (UnderFuse D) D) (log : Logged) (a0 a b : Agenda) → IsDriver d → place_of by ≡ Some place → slice_get d.agendas.items place ≡ Some a0 → place < length d.agendas.items
+    → agenda_of a ≡ at_work (agenda_of a0) → IsAgenda d.volume.layout a → a.lock ≡ a0.lock → log.events ≡ d.shared.log.events → IsAct d.volume.layout by a b (record d.shared { log = log }) q
+    → (earlier : List Event) → (IsTrue G.tells → AreTexts a.machine (log.events ++ earlier)) → (IsTrue G.tells → IsGood b.machine)
+    → IsTrue G.tells → IsTurn d.volume by (behind earlier (world_of d)) (behind earlier (world q (set d.agendas.items place b) (d.turns + 1)))
+turned-told {G = G} by place d q log a0 a b ready at here low taken fits kept events acts earlier texts good told =
+    subst (λ (t : Bool). IsTurnOver d.volume by t (behind earlier (world_of d)) (behind earlier (world q (set d.agendas.items place b) (d.turns + 1)))) told
+    (turned by place d q log a0 a b ready at here low taken fits kept events acts earlier texts good d refl)

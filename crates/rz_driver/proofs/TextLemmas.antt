@@ -36,16 +36,8 @@ use Rattle.rz_core.specs.Legal.{IsLegalInRuns}
 use Rattle.rz_core.proofs.Extends.{wrote-more}
 use Rattle.rz_core.proofs.Stamps.{wrote-cases, begun_by-is}
 use Rattle.rz_play.specs.Turns.{found_text, text_said}
-use Rattle.rz_driver_asks.specs.Parts.{IsUnbegun}
 use Rattle.rz_block_laws.specs.InHand.{IsInHand, IsReadInHand, IsWriteBlock}
 use Rattle.rz_driver.specs.Pictures.{AreBytes, KnowsLength, KnowsLengths}
-
--- ---- writes of this run and of earlier ones
-
--- one that did not begin before is told by this run alone
-wrote-now : (h old : List Event) (s : ℕ) → wrote old s ≡ None → wrote (h ++ old) s ≡ wrote h s
-wrote-now [] old s none = none
-wrote-now (x ∷ h) old s none = ap (λ (o : Option Begun). first_some o (begun_by s x)) (wrote-now h old s none)
 
 -- each text that began has at most a block's bytes
 pub short-text : (v : Volume) (h : List Event) → IsLegalInRuns v h → (s : ℕ) (b : Begun) → wrote h s ≡ Some b → length b.text ≤ block_bytes_of v.layout
@@ -76,9 +68,6 @@ room layouts.L2B3 = refl
 same-begun : (a b : Begun) → Some a ≡ Some b → a ≡ b
 same-begun a b is = cc
 
-no-begun : {A : Type 0} (b : Begun) → None ≡ Some b → A
-no-begun b is = absurd (cc)
-
 module _ (y : Layout) (f : Facts) (key : Key) (stamp size : ℕ) (b : Begun) (known : f.wrote stamp ≡ Some b) (bytes : All (λ x. x < 256) b.text) (long : size ≡ length b.text) (short : length b.text ≤ block_bytes_of y) where
   -- the block that was found
   found : (block : Option Grid) → IsSomeAnd block (IsWriteBlock y f key stamp) → text_found (mark.Found stamp size) block ≡ text_in (f.wrote stamp)
@@ -95,21 +84,17 @@ module _ (y : Layout) (f : Facts) (key : Key) (stamp size : ℕ) (b : Begun) (kn
 same-saying : (a b : Saying) → Say a ≡ Say b → a ≡ b
 same-saying a b is = cc
 
-module _ (y : Layout) (h old : List Event) (earlier : Bool) (block : Option Grid) (pairs : List Pair) where
+module _ (y : Layout) (whole : List Event) (block : Option Grid) (pairs : List Pair) where
   abbrev f : Facts
-  f = facts (h ++ old)
-
-  -- what is known of a saying by the events of this run
-  abbrev Known : Saying → Type 0
-  Known s = (machine.text_said block s ≡ text_said (facts h) s) ⊎ ((earlier ≡ true) × IsUnbegun (facts h) s)
+  f = facts whole
 
   -- what is said of it is so by the whole log
   abbrev Goes : Saying → Type 0
-  Goes s = Known s → machine.text_said block s ≡ text_said f s
+  Goes s = machine.text_said block s ≡ text_said f s
 
   gave-right : (s : Saying) (part : Bool) (key : Key) (end : Option WriteEnd) → gave part key end ≡ Say s → Goes s
   gave-right s part key None is = absurd cc
-  gave-right s part key (Some end) is = subst Goes (same-saying (SayGave key part end) s is) (λ known. refl)
+  gave-right s part key (Some end) is = subst Goes (same-saying (SayGave key part end) s is) refl
 
   write-right : (s : Saying) (part : Bool) (text : List ℕ) (w : WriterState) (a : WriterAsk) → write_asks part text w a ≡ Say s → Goes s
   write-right s part text w (writes.Begin size) is = absurd cc
@@ -117,26 +102,15 @@ module _ (y : Layout) (h old : List Event) (earlier : Bool) (block : Option Grid
   write-right s part text w (writes.Publish stamp mask) is = absurd cc
   write-right s part text w writes.End is = gave-right s part w.key (writer_end w) is
 
-  module _ (bytes : AreBytes (facts old)) (short : (stamp : ℕ) (b : Begun) → f.wrote stamp ≡ Some b → length b.text ≤ block_bytes_of y) where
-    -- a write that began before has a text of bytes; one that began since is told by this run
+  module _ (bytes : AreBytes f) (short : (stamp : ℕ) (b : Begun) → f.wrote stamp ≡ Some b → length b.text ≤ block_bytes_of y) where
     found-right : (key : Key) (part : Bool) (m : ReadMark) → IsReadInHand y f key pairs block (Ended m) → KnowsLength f (Ended m) → Goes (SayGot key part m)
-    found-right key part (mark.Found stamp size) hand knows known = go (wrote old stamp) refl
-      where
-        go : (o : Option Begun) → wrote old stamp ≡ o → text_found (mark.Found stamp size) block ≡ text_in (f.wrote stamp)
-        go (Some b) is =
-            let there : f.wrote stamp ≡ Some b = wrote-more h old stamp b is in
-            let same : knows.0 ≡ b = same-begun knows.0 b (sym knows.1 ∙ there) in
-            found y f key stamp size b there (bytes stamp b is) (knows.2 ∙ ap (λ (z : Begun). length z.text) same) (short stamp b there) block hand
-        go None none = now known
-          where
-            now : Known (SayGot key part (mark.Found stamp size)) → text_found (mark.Found stamp size) block ≡ text_in (f.wrote stamp)
-            now (inl same) = same ∙ ap text_in (sym (wrote-now h old stamp none))
-            now (inr (is, unbegun)) = no-begun knows.0 (sym (wrote-now h old stamp none ∙ unbegun) ∙ knows.1)
-    found-right key part mark.Hole hand knows known = refl
-    found-right key part (mark.TooFew seen) hand knows known = refl
-    found-right key part mark.Inconsistent hand knows known = refl
-    found-right key part (mark.Denied why) hand knows known = refl
-    found-right key part (mark.Moved was now) hand knows known = refl
+    found-right key part (mark.Found stamp size) hand knows =
+        found y f key stamp size knows.0 knows.1 (bytes stamp knows.0 knows.1) knows.2 (short stamp knows.0 knows.1) block hand
+    found-right key part mark.Hole hand knows = refl
+    found-right key part (mark.TooFew seen) hand knows = refl
+    found-right key part mark.Inconsistent hand knows = refl
+    found-right key part (mark.Denied why) hand knows = refl
+    found-right key part (mark.Moved was now) hand knows = refl
 
     read-right : (s : Saying) (part : Bool) (r : ReaderState) (stage : ReadStage) → IsReadInHand y f r.key pairs block stage → KnowsLength f stage → read_asks part r.key (end_at stage) (ask_at r stage) ≡ Say s → Goes s
     read-right s part r Looking hand knows is = absurd cc
@@ -170,6 +144,6 @@ module _ (y : Layout) (h old : List Event) (earlier : Bool) (block : Option Grid
         copying key reads.Recheck is = absurd cc
         copying key reads.End is = absurd cc
     right s z (Rebuilding n (Refilling t l size base)) hand knows is = absurd cc
-    right s z (Rebuilding n (Leaving t key why)) hand knows is = subst Goes (same-saying (SayLeft key why) s is) (λ known. refl)
-    right s z (Ending answer) hand knows is = subst Goes (same-saying (SayDone answer) s is) (λ known. refl)
+    right s z (Rebuilding n (Leaving t key why)) hand knows is = subst Goes (same-saying (SayLeft key why) s is) refl
+    right s z (Ending answer) hand knows is = subst Goes (same-saying (SayDone answer) s is) refl
     right s z Over hand knows is = absurd cc

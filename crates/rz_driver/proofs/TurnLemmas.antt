@@ -1,5 +1,5 @@
 -- What an actor did is its turn in the world of the play, behind any earlier log.
-use Rattle.std.proofs.Common.{◌≡◌, ◌⊎◌, ℕ, zero, suc, ◌+◌, ◌<◌, ◌≤◌, Bool, true, false, cond, List, [], ◌∷◌, ◌++◌, length, set, Option, Some, None, refl, sym, ◌∙◌, ap, subst}
+use Rattle.std.proofs.Common.{◌≡◌, inl, inr, ℕ, zero, suc, ◌+◌, ◌<◌, ◌≤◌, Bool, true, false, cond, List, [], ◌∷◌, ◌++◌, length, set, Option, Some, None, refl, sym, ◌∙◌, ap, subst}
 use Rattle.std.specs.Prelude.{◌==◌, slice_get, IsSomeAnd}
 use Rattle.std.specs.List.{AllByRecursion}
 use Rattle.std.proofs.Math.Path.{fun_ext}
@@ -32,19 +32,21 @@ use Rattle.rz_operation_model.specs.Ask.{Ask, AskExport, AskNode, AskLock, Say, 
 use Rattle.rz_operation_model.specs.Work.{Work, Over, Calling, Dropping, Opening, Locking, Writing, Reading, Rebuilding, Ending}
 use Rattle.rz_operation_model.specs.Steps.{Told, Replied, Locked, Answered, Missed, Noted, told, begun}
 use Rattle.rz_play.specs.World.{World, Agenda as APlayer, at_work, take_up, Bars, IsFree}
-use Rattle.rz_play.specs.Turns.{IsTurn, IsAskTurn, Through as ComesThrough, ReplyLost as LosesReply, RequestLost as LosesRequest, IsGranted, IsGiven, lock_after, lock_on, locked, advanced, no_miss, counted, text_said}
+use Rattle.rz_play.specs.Turns.{IsTurn, IsAskTurn, IsLost, lost_after, Through as ComesThrough, ReplyLost as LosesReply, RequestLost as LosesRequest, IsGranted, IsGiven, lock_after, lock_on, locked, advanced, answered, moved, no_miss, counted, text_said}
+use Rattle.rz_play.specs.Free.{IsFreeTurn, IsFreeAskTurn}
 use Rattle.rz_driver_actors.specs.declared.agenda.Agenda.{Agenda}
 use Rattle.rz_driver_actors.specs.declared.shared.Shared.{Shared}
 use Rattle.rz_nodes.specs.declared.formatting.Server.{Server}
 use Rattle.rz_driver_actors.specs.Acts.{IsAct, Rests, Exports, Opens, Sends, Says, IsSameActor, IsMessage, IsFate, Through, ReplyLost, RequestLost, IsReleased, lock_left}
 use Rattle.rz_driver_asks.specs.Locking.{lock_of, lock_if, open_reply, Grants, IsOpenPart}
-use Rattle.rz_driver_nodes.specs.Nodes.{IsServed, IsAsked}
+use Rattle.rz_driver_nodes.specs.Nodes.{IsServed, IsAsked, IsThroughPart, IsReplyLostPart, IsRequestLostPart}
 use Rattle.rz_operation_model.specs.Turns.{said_event}
-use Rattle.rz_driver_asks.specs.Parts.{IsTold, IsExportPart, IsSayPart, IsUnbegun, is_done}
+use Rattle.rz_driver_asks.specs.Parts.{IsTold, IsExportPart, IsSayPart, is_done}
 use Rattle.rz_player.specs.Behind.{behind}
 use Rattle.rz_driver_actors.specs.Agendas.{work_in, agenda_of, HasLayout}
 use Rattle.rz_driver_nodes.specs.Servers.{state_in, IsServer}
 use Rattle.rz_driver.specs.Worlds.{place_of, agenda_at, agenda_in, world, AreLocks, HaveNoLocks}
+use Rattle.rz_driver_nodes.proofs.Fits.{is_bad, told-true}
 use Rattle.rz_driver_nodes.proofs.Rows.{state-at, state-set}
 use Rattle.rz_driver.proofs.WorldLemmas.{set-same, agenda-here, agenda-set, agenda-same, actor-is, all-actors, at-client, client-place}
 
@@ -85,10 +87,28 @@ told-of m new t goes = record { layout = goes.layout; work = goes.work }
 
 -- ---- what is said
 
+-- Over disks that tell their texts.
+
 -- what this machine says is the text of the write which it names, by the whole log
-abbrev pub AreTexts : Option Machine → Bool → List Event → List Event → Type 0
-AreTexts o flag h earlier = (m : Machine) (said : Saying) → o ≡ Some m → ask_of m.layout m.work ≡ Say said
-    → (text_of m ≡ text_said (facts h) said) ⊎ ((flag ≡ true) × IsUnbegun (facts h) said) → text_of m ≡ text_said (facts (h ++ earlier)) said
+abbrev pub AreTexts : Option Machine → List Event → Type 0
+AreTexts o whole = (m : Machine) (said : Saying) → o ≡ Some m → ask_of m.layout m.work ≡ Say said → text_of m ≡ text_said (facts whole) said
+
+-- and it does not go on to say that records fit no block
+abbrev pub IsGood : Option Machine → Type 0
+IsGood None = Unit {0}
+IsGood (Some m) = is_bad (ask_of m.layout m.work) ≡ false
+
+-- Over disks that do not tell them: a turn over disks that do is one.
+
+as-free : (v : Volume) (w : World) (by : Actor) (s : APlayer) (ask : Ask) (next : World) → IsAskTurn v w by s ask next → IsFreeAskTurn v w by s ask next
+as-free v w by s (AskExport c) next turn = turn
+as-free v w by s (AskNode n question) next turn = inl turn
+as-free v w by s (AskLock path exclusive from count) next turn = turn
+as-free v w by s (Say said) next turn = (text_said (facts w.log) said, turn)
+as-free v w by s Rest next turn = turn
+
+free-of : (v : Volume) (by : Actor) (w next : World) → IsTurn v by w next → IsFreeTurn v by w next
+free-of v by w next turn = as-free v (counted w) by (at_work (w.agendas by)) (ask_of v.layout (at_work (w.agendas by)).work) next turn
 
 -- ---- the turn
 
@@ -123,6 +143,10 @@ module _ {D J : Type 0} (v : Volume) (by : Actor) (ss : List Agenda) (place turn
   lift : (ask : Ask) (b : Agenda) → ask_of v.layout s.work ≡ ask → IsAskTurn v w by s ask (next b) → IsTurn v by (behind earlier (world p ss turns)) (next b)
   lift ask b is turn =
       subst (λ (x : APlayer). IsAskTurn v w by x (ask_of v.layout x.work) (next b)) (sym works) (subst (λ (y : Ask). IsAskTurn v w by s y (next b)) (sym is) turn)
+
+  lift-free : (ask : Ask) (b : Agenda) → ask_of v.layout s.work ≡ ask → IsFreeAskTurn v w by s ask (next b) → IsFreeTurn v by (behind earlier (world p ss turns)) (next b)
+  lift-free ask b is turn =
+      subst (λ (x : APlayer). IsFreeAskTurn v w by x (ask_of v.layout x.work) (next b)) (sym works) (subst (λ (y : Ask). IsFreeAskTurn v w by s y (next b)) (sym is) turn)
 
   rests : (b : Agenda) → ask_of v.layout s.work ≡ Rest → b ≡ a → q ≡ p → IsTurn v by (behind earlier (world p ss turns)) (next b)
   rests b is same shared = lift Rest b is
@@ -257,27 +281,24 @@ module _ {D J : Type 0} (v : Volume) (by : Actor) (ss : List Agenda) (place turn
       states given after = ap state_in m.servers ∙ fun_ext (λ k. state-set p.servers.items n m.place m.after m.at (m.called.sid ∙ found.0) k
           ∙ ap (λ (st : NodeState). cond (k == n) st (state_in p.servers.items k)) (after ∙ ap (after_answer question given) (sym found.1)))
 
-      sent : IsFate by n question m.server m.after old new a.miss b.miss p q → IsTurn v by (behind earlier (world p ss turns)) (next b)
-      sent (Through part comes miss lost) =
-          let given = part.given in
-          let x = part.noted.0 in
-          let nodes = states given part.served.after in
-          let agendas = agendas-are b (advanced v s (Answered true given)) (goes-on old new b (Answered true given) was is same part.goes s.lock (ap lock_of lock) s.miss miss) in
-          lift (AskNode n question) b (asked old (AskNode n question) was asks) (ComesThrough (
-            given,
-            x,
-            given-is given x part.served part.noted.1,
-            comes,
-            λ i. record {
-              nodes = nodes i;
-              export = export_in (m.export i);
-              agendas = agendas i;
-              turns = turns + 1;
-              lost = lost i;
-              log = part.noted.2 i ++ earlier;
-            },
-          ))
-      sent (ReplyLost part lost_so miss lost) =
+      -- it came through, and the actor goes on as it was told
+      came : (fits : Bool) (part : IsThroughPart by n m.server.node.geometry.cells question m.server.node.state m.after.node.state old new p.log.events q.log.events) → IsTold old new (Answered fits part.given)
+          → b.miss ≡ a.miss → q.lost ≡ p.lost → next b ≡ moved (answered w n question part.given) by (advanced v s (Answered fits part.given)) (part.noted.0 ∷ [])
+      came fits part goes miss lost =
+          let nodes = states part.given part.served.after in
+          let agendas = agendas-are b (advanced v s (Answered fits part.given)) (goes-on old new b (Answered fits part.given) was is same goes s.lock (ap lock_of lock) s.miss miss) in
+          λ i. record {
+            nodes = nodes i;
+            export = export_in (m.export i);
+            agendas = agendas i;
+            turns = turns + 1;
+            lost = lost i;
+            log = part.noted.2 i ++ earlier;
+          }
+
+      reply-lost : (part : IsReplyLostPart by n m.server.node.geometry.cells question m.server.node.state m.after.node.state old new p.log.events q.log.events) → IsLost a.miss question true → b.miss ≡ None → q.lost ≡ lost_after a.miss p.lost
+          → IsTurn v by (behind earlier (world p ss turns)) (next b)
+      reply-lost part lost_so miss lost =
           let given = part.given in
           let nodes = states given part.served.after in
           let agendas = agendas-are b (no_miss (advanced v s Missed)) (goes-on old new b Missed was is same (told-of old new Missed part.goes) s.lock (ap lock_of lock) None miss) in
@@ -295,7 +316,10 @@ module _ {D J : Type 0} (v : Volume) (by : Actor) (ss : List Agenda) (place turn
               log = part.noted i ++ earlier;
             },
           ))
-      sent (RequestLost stays part lost_so miss lost) =
+
+      request-lost : m.after ≡ m.server → (part : IsRequestLostPart by n old new p.log.events q.log.events) → IsLost a.miss question false → b.miss ≡ None → q.lost ≡ lost_after a.miss p.lost
+          → IsTurn v by (behind earlier (world p ss turns)) (next b)
+      request-lost stays part lost_so miss lost =
           let nodes : state_in q.servers.items ≡ state_in p.servers.items =
           ap state_in (m.servers ∙ ap (set p.servers.items m.place) stays ∙ set-same p.servers.items m.place m.server m.is) in
           let agendas = agendas-are b (no_miss (advanced v s Missed)) (goes-on old new b Missed was is same (told-of old new Missed part.goes) s.lock (ap lock_of lock) None miss) in
@@ -311,6 +335,21 @@ module _ {D J : Type 0} (v : Volume) (by : Actor) (ss : List Agenda) (place turn
             },
           ))
 
+      sent : IsGood b.machine → IsFate by n question m.server m.after old new a.miss b.miss p q → IsTurn v by (behind earlier (world p ss turns)) (next b)
+      sent good (Through part comes miss lost) =
+          let so = told-true old new part.given part.fits part.may_fit part.goes (subst IsGood is good) in
+          lift (AskNode n question) b (asked old (AskNode n question) was asks)
+          (ComesThrough (part.given, part.noted.0, given-is part.given part.noted.0 part.served part.noted.1, comes, came true part so miss lost))
+      sent good (ReplyLost part lost_so miss lost) = reply-lost part lost_so miss lost
+      sent good (RequestLost stays part lost_so miss lost) = request-lost stays part lost_so miss lost
+
+      free-sent : IsFate by n question m.server m.after old new a.miss b.miss p q → IsFreeTurn v by (behind earlier (world p ss turns)) (next b)
+      free-sent (Through part comes miss lost) =
+          lift-free (AskNode n question) b (asked old (AskNode n question) was asks)
+          (inr (part.given, part.noted.0, part.fits, part.may_fit, given-is part.given part.noted.0 part.served part.noted.1, comes, came part.fits part part.goes miss lost))
+      free-sent (ReplyLost part lost_so miss lost) = free-of v by (behind earlier (world p ss turns)) (next b) (reply-lost part lost_so miss lost)
+      free-sent (RequestLost stays part lost_so miss lost) = free-of v by (behind earlier (world p ss turns)) (next b) (request-lost stays part lost_so miss lost)
+
   -- ---- a word is said
 
   lock-said : (said : Saying) (done : Bool) (lock lock' : Option (Range × LockKind)) → done ≡ is_done said → lock' ≡ lock_left done lock → lock_of lock' ≡ lock_after said (lock_of lock)
@@ -319,29 +358,44 @@ module _ {D J : Type 0} (v : Volume) (by : Actor) (ss : List Agenda) (place turn
   lock-said (SayGave key part end) done lock lock' done_is left = ap lock_of (left ∙ ap (λ (d : Bool). lock_left d lock) done_is)
   lock-said (SayLeft key why) done lock lock' done_is left = ap lock_of (left ∙ ap (λ (d : Bool). lock_left d lock) done_is)
 
-  says : AreTexts a.machine p.log.earlier p.log.events earlier → (b : Agenda) (m new : Machine) → a.machine ≡ Some m → b.machine ≡ Some new → IsSameActor a b → b.miss ≡ a.miss
-      → (done : Bool) → IsSayPart p.log.earlier by a.number done m new p.log.events q.log.events → IsReleased done by a.lock b.lock p.locks q.locks
-      → q.servers.items ≡ p.servers.items → q.export ≡ p.export → q.lost ≡ p.lost → IsTurn v by (behind earlier (world p ss turns)) (next b)
-  says texts b m new was is same miss done (said, asks, part) released servers export lost =
-      let text = text_said (facts (p.log.events ++ earlier)) said in
-      let named : text_of m ≡ text = texts m said was asks part.known in
-      let noted : q.log.events ≡ said_event by a.number text said ∷ p.log.events = part.noted ∙ ap (λ (t : List ℕ). said_event by a.number t said ∷ p.log.events) named in
-      let goes : Goes m m.pairs (Noted text) new = subst (λ (t : List ℕ). Goes m m.pairs (Noted t) new) named part.goes in
-      let agendas = agendas-are b (record (advanced v s (Noted text)) { lock = lock_after said s.lock })
-      (goes-on m new b (Noted text) was is same (told-of m new (Noted text) goes) (lock_after said s.lock) (lock-said said done a.lock b.lock part.done_is released.lock_is) s.miss miss) in
-      lift (Say said) b (asked m (Say said) was asks) (λ i. record {
-        nodes = state_in (servers i);
-        export = export_in (export i);
-        agendas = agendas i;
-        turns = turns + 1;
-        lost = lost i;
-        log = noted i ++ earlier;
-      })
+  module _ (b : Agenda) (m new : Machine) (was : a.machine ≡ Some m) (is : b.machine ≡ Some new) (same : IsSameActor a b) (miss : b.miss ≡ a.miss) (done : Bool) (part : IsSayPart by a.number done m new p.log.events q.log.events)
+      (released : IsReleased done by a.lock b.lock p.locks q.locks) (servers : q.servers.items ≡ p.servers.items) (export : q.export ≡ p.export) (lost : q.lost ≡ p.lost) where
+    -- with this text
+    said-so : (text : List ℕ) → text_of m ≡ text → next b ≡ moved w by (record (advanced v s (Noted text)) { lock = lock_after part.0 s.lock }) (said_event by a.number text part.0 ∷ [])
+    said-so text named =
+        let said = part.0 in
+        let noted : q.log.events ≡ said_event by a.number text said ∷ p.log.events = part.2.noted ∙ ap (λ (t : List ℕ). said_event by a.number t said ∷ p.log.events) named in
+        let goes : Goes m m.pairs (Noted text) new = subst (λ (t : List ℕ). Goes m m.pairs (Noted t) new) named part.2.goes in
+        let agendas = agendas-are b (record (advanced v s (Noted text)) { lock = lock_after said s.lock })
+        (goes-on m new b (Noted text) was is same (told-of m new (Noted text) goes) (lock_after said s.lock) (lock-said said done a.lock b.lock part.2.done_is released.lock_is) s.miss miss) in
+        λ i. record {
+          nodes = state_in (servers i);
+          export = export_in (export i);
+          agendas = agendas i;
+          turns = turns + 1;
+          lost = lost i;
+          log = noted i ++ earlier;
+        }
+
+    says : AreTexts a.machine (p.log.events ++ earlier) → IsTurn v by (behind earlier (world p ss turns)) (next b)
+    says texts = lift (Say part.0) b (asked m (Say part.0) was part.1) (said-so (text_said (facts (p.log.events ++ earlier)) part.0) (texts m part.0 was part.1))
+
+    free-says : IsFreeTurn v by (behind earlier (world p ss turns)) (next b)
+    free-says = lift-free (Say part.0) b (asked m (Say part.0) was part.1) (text_of m, said-so (text_of m) refl)
 
   -- What the actor did is its turn.
-  pub turn-is : AreTexts a.machine p.log.earlier p.log.events earlier → AreLocks p.locks ss → HaveNoLocks ss → AllByRecursion (IsServer v) p.servers.items → a.lock ≡ a0.lock → (b : Agenda) → IsAct v.layout by a b p q → IsTurn v by (behind earlier (world p ss turns)) (next b)
-  turn-is texts tied free servers kept b (Rests is same shared) = rests b is same shared
-  turn-is texts tied free servers kept b (Exports old new was is same lock miss part sts lks lost) = exports b old new was is same lock miss part sts lost
-  turn-is texts tied free servers kept b (Opens old new was is same miss part sts lost) = opens tied free b old new was is same miss kept part sts lost
-  turn-is texts tied free servers kept b (Sends old new was is same lock n question asks message) = sent servers n question old new b message was is same lock asks message.fate
-  turn-is texts tied free servers kept b (Says old new was is same miss done part released sts export lost) = says texts b old new was is same miss done part released sts export lost
+
+  module _ (tied : AreLocks p.locks ss) (free : HaveNoLocks ss) (servers : AllByRecursion (IsServer v) p.servers.items) (kept : a.lock ≡ a0.lock) (b : Agenda) where
+    pub turn-is : AreTexts a.machine (p.log.events ++ earlier) → IsGood b.machine → IsAct v.layout by a b p q → IsTurn v by (behind earlier (world p ss turns)) (next b)
+    turn-is texts good (Rests is same shared) = rests b is same shared
+    turn-is texts good (Exports old new was is same lock miss part sts lks lost) = exports b old new was is same lock miss part sts lost
+    turn-is texts good (Opens old new was is same miss part sts lost) = opens tied free b old new was is same miss kept part sts lost
+    turn-is texts good (Sends old new was is same lock n question asks message) = sent servers n question old new b message was is same lock asks good message.fate
+    turn-is texts good (Says old new was is same miss done part released sts export lost) = says b old new was is same miss done part released sts export lost texts
+
+    pub free-turn-is : IsAct v.layout by a b p q → IsFreeTurn v by (behind earlier (world p ss turns)) (next b)
+    free-turn-is (Rests is same shared) = free-of v by (behind earlier (world p ss turns)) (next b) (rests b is same shared)
+    free-turn-is (Exports old new was is same lock miss part sts lks lost) = free-of v by (behind earlier (world p ss turns)) (next b) (exports b old new was is same lock miss part sts lost)
+    free-turn-is (Opens old new was is same miss part sts lost) = free-of v by (behind earlier (world p ss turns)) (next b) (opens tied free b old new was is same miss kept part sts lost)
+    free-turn-is (Sends old new was is same lock n question asks message) = free-sent servers n question old new b message was is same lock asks message.fate
+    free-turn-is (Says old new was is same miss done part released sts export lost) = free-says b old new was is same miss done part released sts export lost

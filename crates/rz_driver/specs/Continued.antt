@@ -66,7 +66,6 @@ pub record IsOpenedOver {D : Type 0} {G : Ghosts D} (v : Volume) (export : Metad
   pub turns : d.turns ≡ 0
   pub lost : d.shared.lost ≡ 0
   pub events : d.shared.log.events ≡ []
-  pub earlier : d.shared.log.earlier ≡ true
 
 -- A driver was opened on these disks: its export is the one that the entries of the journal make, and its nodes hold what
 -- their disks stand for, each as one that lost what the export enrolled last. Nothing was played.

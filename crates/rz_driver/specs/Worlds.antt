@@ -1,6 +1,6 @@
 -- The world of a play that a driver stands for.
 use Rattle.std.proofs.Common.{refl, sym, subst}
-use Rattle.std.specs.Prelude.{ℕ, Bool, true, false, IsTrue, ◌≡◌, ◌+◌, ◌-◌, ◌^◌, ◌<◌, ◌≤◌, ◌⊎◌, ◌&&◌, nat_le, not, map, List, [], ◌++◌, length, Option, Some, None, slice_get}
+use Rattle.std.specs.Prelude.{ℕ, Bool, true, false, IsTrue, ◌≡◌, ◌+◌, ◌-◌, ◌^◌, ◌<◌, ◌≤◌, ◌⊎◌, ◌&&◌, nat_le, map, List, [], ◌++◌, length, Option, Some, None, slice_get}
 use Rattle.std.specs.List.{AllByRecursion}
 use Rattle.std.specs.FinMap.{get}
 use Rattle.mj_angles.specs.Layout.{max_bins_of}
@@ -83,32 +83,25 @@ pub record IsDriver {D : Type 0} {G : Ghosts D} (d : Driver D G) : Type 0 where
 abbrev pub numbers_in : {D : Type 0} {G : Ghosts D} → Driver D G → List ℕ
 numbers_in d = map (λ (n : NodeSpec). n.sid) (nodes_of d.volume.clusters)
 
--- Each text that a read finds is that of the write which it names: but in a play after earlier runs over disks that do not tell
--- their texts.
-
-abbrev pub exact_if : (tells earlier : Bool) → Bool
-exact_if true earlier = true
-exact_if false earlier = not earlier
-
-abbrev pub is_exact : {D : Type 0} {G : Ghosts D} → Driver D G → Bool
-is_exact {G = G} d = exact_if G.tells d.shared.log.earlier
-
--- it is where disks tell their texts
-pub tells-exactly : {D : Type 0} {G : Ghosts D} (d : Driver D G) → IsTrue G.tells → is_exact d ≡ true
-tells-exactly d told = subst (λ (tells : Bool). exact_if tells d.shared.log.earlier ≡ true) (sym told) refl
-
--- before a play that goes on after a log, where the disks had counted so many faults
+-- Before a play that goes on after a log, where the disks had counted so many faults. That it was the log of the earlier runs is
+-- known by what disks tell.
 abbrev pub left_behind : (ℕ → ℕ) → List Event → Before
-left_behind counts old = record { counts = counts; log = old }
+left_behind counts old = record { counts = counts; log = old; known = false }
 
 -- before one that begins anew
 abbrev pub anew : (ℕ → ℕ) → Before
-anew counts = left_behind counts []
+anew counts = record { counts = counts; log = []; known = true }
 
--- What there was before the first line: what the disks had counted, and the log of earlier runs. There was none of these where the
--- log is one that begins anew.
-pub record GoesAfter {D : Type 0} {G : Ghosts D} (d : Driver D G) (b : Before) : Type 0 where
-  pub anew : d.shared.log.earlier ≡ false → b.log ≡ []
+-- The log of the earlier runs is known: of disks that do not tell their texts only where there were none.
+abbrev pub is_known : (tells : Bool) → Before → Bool
+is_known true b = true
+is_known false b = b.known
+
+pub tells-known : (tells : Bool) (b : Before) → IsTrue tells → is_known tells b ≡ true
+tells-known tells b told = subst (λ (t : Bool). is_known t b ≡ true) (sym told) refl
+
+-- it is short enough
+pub record GoesAfter (b : Before) : Type 0 where
   pub short : length b.log < 2 ^ 63 + 512
 
 -- where disks tell their texts, and the whole log has room for an event more, actors and disks are right beside it
@@ -124,10 +117,10 @@ HasRightDisks {G = G} d old =
 -- between two turns each word of the log goes with its disk's meter, and a journal stands for the calls that the whole log tells
 abbrev pub Holds : {D : Type 0} {G : Ghosts D} → Driver D G → Before → Type 0
 Holds {G = G} d b =
-    AreMetered (fused_meter G.meter) (numbers_in d) d.shared.servers.items d.shared.log.events b.counts × HasPicture d b.log × (is_exact d ≡ true → HasJournal d b) × GoesAfter d b
+    AreMetered (fused_meter G.meter) (numbers_in d) d.shared.servers.items d.shared.log.events b.counts × HasPicture d b.log × (is_known G.tells b ≡ true → HasJournal d b) × GoesAfter b
 
 -- where a play ended they do, or the faults of each word are counted, and a journal may have one call more
 abbrev pub Leaves : {D : Type 0} {G : Ghosts D} → Driver D G → Before → Type 0
 Leaves {G = G} d b =
     Holds d b
-    ⊎ (AreCounted (fused_meter G.meter) (numbers_in d) d.shared.servers.items d.shared.log.events b.counts × HasRightDisks d b.log × (is_exact d ≡ true → LeavesJournal d b) × GoesAfter d b)
+    ⊎ (AreCounted (fused_meter G.meter) (numbers_in d) d.shared.servers.items d.shared.log.events b.counts × HasRightDisks d b.log × (is_known G.tells b ≡ true → LeavesJournal d b) × GoesAfter b)

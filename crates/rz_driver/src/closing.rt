@@ -13,7 +13,7 @@ ghost use Rattle.rz_nodes.specs.Formatted.{disks_of};
 ghost use Rattle.rz_driver.specs.Continued.{AreLeft, EndsWhole};
 ghost use Rattle.rz_driver.specs.Endings.{EndsAsRefused, StandsForLog};
 ghost use Rattle.rz_driver.specs.Journals.{journal_place};
-ghost use Rattle.rz_driver.specs.Worlds.{numbers_in, is_exact, Holds, Leaves};
+ghost use Rattle.rz_driver.specs.Worlds.{numbers_in, is_known, Holds, Leaves};
 
 use crate::driver::Driver;
 use rz_disk::{Disk, Fused};
@@ -86,7 +86,7 @@ impl<D: Disk> Driver<D> {
         ensures stands { (b : Before) (disk : D) → Holds self b → disk_of self.shared.export ≡ Some disk → IsTrue D.tells → StandsForLog (D.image disk) self.volume (self.shared.log.events ++ b.log) }
 
         // Where a play ended, for these still, or also for one call more, by what the journal refused.
-        ensures ends { (b : Before) (disk : D) → Leaves self b → is_exact self ≡ true → disk_of self.shared.export ≡ Some disk
+        ensures ends { (b : Before) (disk : D) → Leaves self b → is_known D.tells b ≡ true → disk_of self.shared.export ≡ Some disk
             → EndsAsRefused (refusal_of self.shared.export) D.tells (D.image disk) (b.counts (journal_place self)) (faults (D.meter disk)) self.volume (self.shared.log.events ++ b.log) }
 
         // Where the play ended between two turns, or the journal was full, the disks are what a next run wants: `again` takes

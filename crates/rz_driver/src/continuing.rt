@@ -130,7 +130,7 @@ fn open_nodes<D: Disk>(
             drop(emptied);
             drop(room);
             let locks = Locks::new();
-            let log = Log::after_earlier(alloc);
+            let log = Log::new(alloc);
             Ok(Driver {
                 alloc,
                 volume: parts.volume,

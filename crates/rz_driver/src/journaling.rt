@@ -7,7 +7,7 @@ ghost use Rattle.rz_metadata.specs.Stands.{is_journaled};
 ghost use Rattle.rz_play.specs.World.{new_world};
 ghost use Rattle.rz_driver_nodes.specs.Meters.{faults_at};
 ghost use Rattle.rz_driver.specs.Formatted.{AreBackWithJournal, IsBehindJournal, IsJournalRefused};
-ghost use Rattle.rz_driver.specs.Worlds.{anew, world_of, is_exact, IsDriver, Holds};
+ghost use Rattle.rz_driver.specs.Worlds.{anew, world_of, IsDriver, Holds};
 
 use crate::driver::Driver;
 use rz_cells::FormatFault;
@@ -29,7 +29,6 @@ impl<D: Disk> Driver<D> {
     ) -> Result<Driver<D>, (Vec<D>, DriverFault)>
         requires count { length disks.items ≡ length (nodes_of volume.now.clusters) + 1 }
         ensures ready { IfOk result (λ d. IsDriver d) }
-        ensures exact { IfOk result (λ d. is_exact d ≡ true) }
         ensures volume { IfOk result (λ d. d.volume ≡ volume.now) }
         ensures journal { IfOk result (λ d. is_journaled d.shared.export ≡ true) }
         ensures world { IfOk result (λ d. world_of d ≡ new_world volume.now) }

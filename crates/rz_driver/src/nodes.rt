@@ -1,20 +1,17 @@
 //! What the script orders of a node.
-ghost use Rattle.std.specs.Prelude.{◌≡◌, ◌∷◌, OnOk, OnErr};
-ghost use Rattle.rz_events.specs.declared.nodes.NodeAsk.TheVariants as ask;
-ghost use Rattle.rz_events.specs.declared.events.Event.TheVariants as e;
+ghost use Rattle.std.specs.Prelude.{◌≡◌, OnOk, OnErr};
 ghost use Rattle.rz_script.specs.Lines.{IsLine};
 ghost use Rattle.rz_script.specs.declared.line.Line.TheVariants as line;
-ghost use Rattle.rz_play.specs.Lines.{IsAdminCall};
-ghost use Rattle.rz_script.specs.declared.line.Line.TheVariants as line;
 ghost use Rattle.rz_player.specs.Ends.{Carries};
-ghost use Rattle.rz_play.specs.Free.{PlaysLineOver};
+ghost use Rattle.rz_play.specs.Lines.{PlaysLineOver};
 ghost use Rattle.rz_metadata.specs.Stands.{is_journaled};
-ghost use Rattle.rz_driver.specs.Worlds.{world_of, is_exact, IsDriver, Holds, Leaves};
+ghost use Rattle.rz_driver.specs.Worlds.{world_of, IsDriver, Holds, Leaves};
 
 use crate::Halted;
 use crate::driver::Driver;
 use rz_disk::Disk;
-use rz_driver_nodes::{arm_node, lose_node, start_node, stop_node};
+use rz_driver_nodes::{arm_node, order_node, start_node};
+use rz_events::NodeAsk;
 
 impl<D: Disk> Driver<D> {
     /// The node stops.
@@ -23,9 +20,8 @@ impl<D: Disk> Driver<D> {
         requires line { IsLine self.old.volume (line.Stop sid) }
         ensures volume { self.new.volume ≡ self.old.volume }
         ensures journal { is_journaled self.new.shared.export ≡ is_journaled self.old.shared.export }
-        ensures exact { is_exact self.new ≡ is_exact self.old }
         ensures ready { OnOk result (IsDriver self.new) }
-        ensures called { OnOk result (IsAdminCall self.old.volume sid ask.Stop (world_of self.old) (world_of self.new)) }
+        ensures played { OnOk result (PlaysLineOver self.old.volume (line.Stop sid) D.tells (world_of self.old) (world_of self.new)) }
         ensures lost { self.new.shared.lost ≡ self.old.shared.lost }
         ensures log { OnErr result (self.new.shared.log.events ≡ self.old.shared.log.events) }
         ensures held { OnOk result (Carries (Holds self.old) (Holds self.new)) }
@@ -35,7 +31,12 @@ impl<D: Disk> Driver<D> {
         rz_block_laws::lasting();
         rz_restart_laws::untold();
         let shared = &mut self.shared;
-        stop_node(shared.servers.as_mut_slice(), &mut shared.log, sid)
+        order_node(
+            shared.servers.as_mut_slice(),
+            &mut shared.log,
+            sid,
+            &NodeAsk::Stop,
+        )
     }
 
     /// The node starts again. What it finds is said of a disk that tells its text.
@@ -44,10 +45,8 @@ impl<D: Disk> Driver<D> {
         requires line { IsLine self.old.volume (line.Start sid) }
         ensures volume { self.new.volume ≡ self.old.volume }
         ensures journal { is_journaled self.new.shared.export ≡ is_journaled self.old.shared.export }
-        ensures exact { is_exact self.new ≡ is_exact self.old }
         ensures ready { OnOk result (IsDriver self.new) }
-        ensures called { OnOk result (PlaysLineOver self.old.volume (line.Start sid) D.tells (world_of self.old) (world_of self.new)) }
-        ensures turns { self.new.turns ≡ self.old.turns }
+        ensures played { OnOk result (PlaysLineOver self.old.volume (line.Start sid) D.tells (world_of self.old) (world_of self.new)) }
         ensures lost { self.new.shared.lost ≡ self.old.shared.lost }
         ensures log { OnErr result (self.new.shared.log.events ≡ self.old.shared.log.events) }
         ensures held { OnOk result (Carries (Holds self.old) (Holds self.new)) }
@@ -71,9 +70,8 @@ impl<D: Disk> Driver<D> {
         requires line { IsLine self.old.volume (line.Lose sid) }
         ensures volume { self.new.volume ≡ self.old.volume }
         ensures journal { is_journaled self.new.shared.export ≡ is_journaled self.old.shared.export }
-        ensures exact { is_exact self.new ≡ is_exact self.old }
         ensures ready { OnOk result (IsDriver self.new) }
-        ensures called { OnOk result (IsAdminCall self.old.volume sid ask.Lose (world_of self.old) (world_of self.new)) }
+        ensures played { OnOk result (PlaysLineOver self.old.volume (line.Lose sid) D.tells (world_of self.old) (world_of self.new)) }
         ensures lost { self.new.shared.lost ≡ self.old.shared.lost }
         ensures log { OnErr result (self.new.shared.log.events ≡ self.old.shared.log.events) }
         ensures held { OnOk result (Carries (Holds self.old) (Holds self.new)) }
@@ -83,18 +81,22 @@ impl<D: Disk> Driver<D> {
         rz_block_laws::lasting();
         rz_restart_laws::untold();
         let shared = &mut self.shared;
-        lose_node(shared.servers.as_mut_slice(), &mut shared.log, sid)
+        order_node(
+            shared.servers.as_mut_slice(),
+            &mut shared.log,
+            sid,
+            &NodeAsk::Lose,
+        )
     }
 
     /// The node's disk lets so many device calls pass, and its next crash picks by `pick`.
-    pub(crate) fn order_break(&mut self, sid: u16, passes: u64, pick: u64) -> Result<(), Halted>
+    pub(crate) fn arm(&mut self, sid: u16, passes: u64, pick: u64) -> Result<(), Halted>
         requires ready { IsDriver self.old }
         requires line { IsLine self.old.volume (line.Break sid passes pick) }
         ensures volume { self.new.volume ≡ self.old.volume }
         ensures journal { is_journaled self.new.shared.export ≡ is_journaled self.old.shared.export }
-        ensures exact { is_exact self.new ≡ is_exact self.old }
         ensures ready { OnOk result (IsDriver self.new) }
-        ensures armed { OnOk result (world_of self.new ≡ record (world_of self.old) { log = e.Armed sid passes pick ∷ self.old.shared.log.events }) }
+        ensures played { OnOk result (PlaysLineOver self.old.volume (line.Break sid passes pick) D.tells (world_of self.old) (world_of self.new)) }
         ensures lost { self.new.shared.lost ≡ self.old.shared.lost }
         ensures log { OnErr result (self.new.shared.log.events ≡ self.old.shared.log.events) }
         ensures held { OnOk result (Carries (Holds self.old) (Holds self.new)) }

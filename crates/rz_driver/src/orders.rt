@@ -2,10 +2,10 @@
 ghost use Rattle.std.specs.Prelude.{◌≡◌, OnOk, OnErr};
 ghost use Rattle.rz_script.specs.Lines.{IsLine};
 ghost use Rattle.rz_script.specs.declared.line.Line.TheVariants as line;
-ghost use Rattle.rz_play.specs.Lines.{PlaysLine};
+ghost use Rattle.rz_play.specs.Lines.{PlaysLineOver};
 ghost use Rattle.rz_player.specs.Ends.{Carries};
 ghost use Rattle.rz_metadata.specs.Stands.{is_journaled};
-ghost use Rattle.rz_driver.specs.Worlds.{world_of, is_exact, IsDriver, Holds, Leaves};
+ghost use Rattle.rz_driver.specs.Worlds.{world_of, IsDriver, Holds, Leaves};
 
 use crate::Halted;
 use crate::driver::Driver;
@@ -20,9 +20,8 @@ impl<D: Disk> Driver<D> {
         requires line { IsLine self.old.volume (line.Op by op.now) }
         ensures volume { self.new.volume ≡ self.old.volume }
         ensures journal { is_journaled self.new.shared.export ≡ is_journaled self.old.shared.export }
-        ensures exact { is_exact self.new ≡ is_exact self.old }
         ensures ready { OnOk result (IsDriver self.new) }
-        ensures played { OnOk result (PlaysLine self.old.volume (line.Op by op.now) (world_of self.old) (world_of self.new)) }
+        ensures played { OnOk result (PlaysLineOver self.old.volume (line.Op by op.now) D.tells (world_of self.old) (world_of self.new)) }
         ensures lost { self.new.shared.lost ≡ self.old.shared.lost }
         ensures log { OnErr result (self.new.shared.log.events ≡ self.old.shared.log.events) }
         ensures held { OnOk result (Carries (Holds self.old) (Holds self.new)) }
@@ -38,20 +37,23 @@ impl<D: Disk> Driver<D> {
     }
 
     /// The actor's next message is to be lost.
-    pub(crate) fn plan_miss(&mut self, by: Actor, reply: bool)
+    pub(crate) fn plan_miss(&mut self, by: Actor, reply: bool) -> Result<(), Halted>
         requires ready { IsDriver self.old }
         requires line { IsLine self.old.volume (line.Miss by reply) }
         ensures volume { self.new.volume ≡ self.old.volume }
         ensures journal { is_journaled self.new.shared.export ≡ is_journaled self.old.shared.export }
-        ensures exact { is_exact self.new ≡ is_exact self.old }
-        ensures ready { IsDriver self.new }
-        ensures played { PlaysLine self.old.volume (line.Miss by reply) (world_of self.old) (world_of self.new) }
+        ensures ready { OnOk result (IsDriver self.new) }
+        ensures played { OnOk result (PlaysLineOver self.old.volume (line.Miss by reply) D.tells (world_of self.old) (world_of self.new)) }
         ensures lost { self.new.shared.lost ≡ self.old.shared.lost }
-        ensures held { Carries (Holds self.old) (Holds self.new) }
+        ensures log { OnErr result (self.new.shared.log.events ≡ self.old.shared.log.events) }
+        ensures held { OnOk result (Carries (Holds self.old) (Holds self.new)) }
+        ensures left { OnErr result (Carries (Holds self.old) (Leaves self.new)) }
     {
         rz_play_laws::lined();
-        if let Some(place) = place(by) {
-            self.agendas[place].miss = Some(reply);
-        }
+        let Some(place) = place(by) else {
+            return Err(Halted);
+        };
+        self.agendas[place].miss = Some(reply);
+        Ok(())
     }
 }

@@ -3,13 +3,14 @@ ghost use Rattle.std.specs.Prelude.{◌≡◌};
 
 use crate::driver::Driver;
 use rz_disk::Disk;
-use rz_events::{Actor, Event, Operation};
+use rz_events::{Actor, Event};
 use rz_link::Link;
 use rz_metadata::JournalRefusal;
 use rz_player::{Halted, LoggedStage, PlayEnd, Stage};
+use rz_script::Line;
 
 impl<D: Disk> Stage for Driver<D> {
-    ghost use Rattle.rz_driver.specs.Worlds.{world_of, is_exact, tells-exactly, IsDriver, Holds, Leaves};
+    ghost use Rattle.rz_driver.specs.Worlds.{world_of, IsDriver, Holds, Leaves};
     ghost use Rattle.rz_driver.specs.Endings.{end_by};
     ghost use Rattle.rz_metadata.specs.Stands.{is_journaled, refusal_of};
     ghost use Rattle.std.proofs.Common.{inl};
@@ -30,11 +31,7 @@ impl<D: Disk> Stage for Driver<D> {
 
     ghost leaves = { λ d. Leaves d };
 
-    ghost exact = { λ d. is_exact d };
-
     ghost ends = { λ d b held. inl held };
-
-    ghost exactly = { λ d told. tells-exactly d told };
 
     fn cut_off(&self) -> PlayEnd {
         match self.shared.export.refusal() {
@@ -56,28 +53,16 @@ impl<D: Disk> Stage for Driver<D> {
         self.take_turn(by, link)
     }
 
-    fn add(&mut self, by: Actor, op: &Operation) -> Result<(), Halted> {
-        self.add_operation(by, op)
-    }
-
-    fn miss(&mut self, by: Actor, reply: bool) {
-        self.plan_miss(by, reply)
-    }
-
-    fn stop(&mut self, node: u16) -> Result<(), Halted> {
-        self.order_stop(node)
-    }
-
-    fn start(&mut self, node: u16) -> Result<(), Halted> {
-        self.order_start(node)
-    }
-
-    fn lose(&mut self, node: u16) -> Result<(), Halted> {
-        self.order_loss(node)
-    }
-
-    fn arm(&mut self, node: u16, passes: u64, pick: u64) -> Result<(), Halted> {
-        self.order_break(node, passes, pick)
+    fn order(&mut self, line: &Line) -> Result<(), Halted> {
+        match line {
+            Line::Op { by, op } => self.add_operation(*by, op),
+            Line::Miss { by, reply } => self.plan_miss(*by, *reply),
+            Line::Stop { node } => self.order_stop(*node),
+            Line::Start { node } => self.order_start(*node),
+            Line::Lose { node } => self.order_loss(*node),
+            Line::Break { node, k, pick } => self.arm(*node, *k, *pick),
+            Line::Turn { .. } | Line::Rounds { .. } | Line::Rest => Ok(()),
+        }
     }
 }
 

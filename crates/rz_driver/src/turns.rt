@@ -1,12 +1,12 @@
 //! The turns of actors.
-ghost use Rattle.std.specs.Prelude.{◌≡◌, ◌+◌, ◌<◌, ◌≤◌, true, OnOk, OnErr};
+ghost use Rattle.std.specs.Prelude.{◌≡◌, ◌+◌, ◌<◌, ◌≤◌, OnOk, OnErr};
 ghost use Rattle.rz_play.specs.Stops.{most_turns};
-ghost use Rattle.rz_play.specs.Turns.{IsTurn};
+ghost use Rattle.rz_play.specs.Free.{IsTurnOver};
 ghost use Rattle.rz_play.specs.World.{has_work};
 ghost use Rattle.rz_player.specs.Behind.{Before, behind};
 ghost use Rattle.rz_player.specs.Ends.{Carries};
 ghost use Rattle.rz_metadata.specs.Stands.{is_journaled};
-ghost use Rattle.rz_driver.specs.Worlds.{place_of, world_of, is_exact, IsDriver, Holds, Leaves};
+ghost use Rattle.rz_driver.specs.Worlds.{place_of, world_of, IsDriver, Holds, Leaves};
 
 use crate::Halted;
 use crate::driver::Driver;
@@ -34,9 +34,8 @@ impl<D: Disk> Driver<D> {
         ensures ready { OnOk result (IsDriver self.new) }
         ensures volume { self.new.volume ≡ self.old.volume }
         ensures journal { is_journaled self.new.shared.export ≡ is_journaled self.old.shared.export }
-        ensures exact { is_exact self.new ≡ is_exact self.old }
         ensures counted { OnOk result (self.new.turns ≡ self.old.turns + 1) }
-        ensures taken { OnOk result ((b : Before) → Holds self.old b → is_exact self.old ≡ true → IsTurn self.old.volume by (behind b.log (world_of self.old)) (behind b.log (world_of self.new))) }
+        ensures taken { OnOk result ((b : Before) → Holds self.old b → IsTurnOver self.old.volume by D.tells (behind b.log (world_of self.old)) (behind b.log (world_of self.new))) }
         ensures link { self.new.shared.lost + L.lost link.old ≤ self.old.shared.lost + L.lost link.new }
         ensures log { OnErr result (self.new.shared.log.events ≡ self.old.shared.log.events) }
         ensures lost { OnErr result (self.new.shared.lost ≡ self.old.shared.lost) }
@@ -47,6 +46,7 @@ impl<D: Disk> Driver<D> {
         rz_play_laws::working();
         rz_play_laws::turned();
         rz_play_laws::facts_told();
+        rz_block_laws::fitting();
         rz_block_laws::lasting();
         rz_restart_laws::told();
         rz_restart_laws::untold();

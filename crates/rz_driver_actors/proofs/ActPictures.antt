@@ -79,8 +79,8 @@ module _ {D : Type 0} (image : D → List ℕ → Type 0) (by : Actor) (xs : Lis
         plain 0 t x r.noted.2 (subst (λ (a : Ask). IsStep by 0 a t (x ∷ [])) (sym asks) (r.granted, open_reply s path, x, refl, r.noted.1, refl)) tt r.goes
 
     -- a word was said
-    pub say-keeps : (earlier : Bool) (number : ℕ) (done : Bool) → IsSayPart earlier by number done m new h h' → KeepsPicture image by o (Some new) xs h xs h'
-    say-keeps earlier number done (said, asks, r) =
+    pub say-keeps : (number : ℕ) (done : Bool) → IsSayPart by number done m new h h' → KeepsPicture image by o (Some new) xs h xs h'
+    say-keeps number done (said, asks, r) =
         let text = text_of m in
         let t = Noted text in
         let x = said_event by number text said in

@@ -47,8 +47,8 @@ said-own by number text (SayGave key part end) = refl
 said-own by number text (SayLeft key why) = refl
 said-own by number text (SayDone answer) = refl
 
-pub said-stays-export : (earlier : Bool) (by : Actor) (number : ℕ) (done : Bool) (old new : Machine) (h h' : List Event) → IsSayPart earlier by number done old new h h' → of_word Export h' ≡ of_word Export h
-said-stays-export earlier by number done old new h h' (said, asks, part) =
+pub said-stays-export : (by : Actor) (number : ℕ) (done : Bool) (old new : Machine) (h h' : List Event) → IsSayPart by number done old new h h' → of_word Export h' ≡ of_word Export h
+said-stays-export by number done old new h h' (said, asks, part) =
     ap (of_word Export) part.noted ∙ own-stays by (said_event by number (text_of old) said) h (said-own by number (text_of old) said)
 
 -- ---- the metadata beside them

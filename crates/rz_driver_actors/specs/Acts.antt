@@ -88,6 +88,6 @@ pub data IsAct {D J : Type 0} (layout : Layout) (by : Actor) (a b : Agenda) (p q
       → (n : ℕ) (question : NodeAsk) → IsAsked old n question → IsMessage by n question old new a.miss b.miss p q
       → IsAct layout by a b p q
   Says : (old new : Machine) → a.machine ≡ Some old → b.machine ≡ Some new → IsSameActor a b → b.miss ≡ a.miss
-      → (done : Bool) → IsSayPart p.log.earlier by a.number done old new p.log.events q.log.events → IsReleased done by a.lock b.lock p.locks q.locks
+      → (done : Bool) → IsSayPart by a.number done old new p.log.events q.log.events → IsReleased done by a.lock b.lock p.locks q.locks
       → q.servers.items ≡ p.servers.items → q.export ≡ p.export → q.lost ≡ p.lost
       → IsAct layout by a b p q

@@ -69,7 +69,6 @@ pub fn act<D: Disk, J: Disk, L: Link>(
     ensures actor { IsSameActor agenda.old agenda.new }
     ensures miss { OnErr result (agenda.new.miss ≡ agenda.old.miss) }
     ensures err { OnErr result (shared.new.log.events ≡ shared.old.log.events) }
-    ensures earlier { shared.new.log.earlier ≡ shared.old.log.earlier }
     ensures lost { OnErr result (shared.new.lost ≡ shared.old.lost) }
     ensures link { shared.new.lost + L.lost link.old ≤ shared.old.lost + L.lost link.new }
     ensures bins { length shared.new.bins.items ≡ length shared.old.bins.items }
@@ -152,7 +151,6 @@ fn message<D: Disk, J: Disk, L: Link>(
     ensures miss { OnErr result (miss.new ≡ miss.old) }
     ensures locks { shared.new.locks ≡ shared.old.locks }
     ensures err { OnErr result (shared.new.log.events ≡ shared.old.log.events) }
-    ensures earlier { shared.new.log.earlier ≡ shared.old.log.earlier }
     ensures lost { OnErr result (shared.new.lost ≡ shared.old.lost) }
     ensures export { shared.new.export ≡ shared.old.export }
     ensures link { shared.new.lost + L.lost link.old ≤ shared.old.lost + L.lost link.new }
@@ -183,7 +181,7 @@ fn message<D: Disk, J: Disk, L: Link>(
             Ok(())
         }
         Sent::RequestLost => {
-            without_request(by, number, machine, ask, log)?;
+            without_request(by, number, machine, ask, log);
             *miss = None;
             shared.lost = lost;
             Ok(())

@@ -1,23 +1,17 @@
 -- What one turn makes of the parts that it uses: the machine, the export, the locks and the log.
-use Rattle.std.specs.Prelude.{ℕ, Bool, true, false, ◌≡◌, ◌⊎◌, List, ◌∷◌, Option, Some, None}
+use Rattle.std.specs.Prelude.{ℕ, Bool, true, false, ◌≡◌, List, ◌∷◌, Option, Some}
 use Rattle.rz_events.specs.declared.keys.Actor.{Actor}
-use Rattle.rz_events.specs.declared.ends.LeftWhy.{LeftWhy}
-use Rattle.rz_events.specs.declared.ends.LeftWhy.TheVariants as left
-use Rattle.rz_events.specs.declared.ends.ReadMark.{ReadMark}
-use Rattle.rz_events.specs.declared.ends.ReadMark.TheVariants as mark
 use Rattle.rz_events.specs.declared.export.Call.{Call}
 use Rattle.rz_events.specs.declared.events.Event.{Event}
 use Rattle.rz_export_model.specs.Export.{Export, export_reply, export_after}
 use Rattle.rz_export_model.specs.ExportEvents.{export_event}
-use Rattle.rz_core.specs.History.{Facts, facts}
 use Rattle.rz_operation.specs.Answers.{Goes}
 use Rattle.rz_operation.specs.Machine.{Machine, text_of}
-use Rattle.rz_operation_model.specs.Ask.{Ask, AskExport, Say, Saying, SayGot, SayLeft, SayDone, ask_of}
+use Rattle.rz_operation_model.specs.Ask.{AskExport, Say, Saying, SayDone, ask_of}
 use Rattle.rz_operation_model.specs.Steps.{Told, Replied, Noted, told}
 use Rattle.rz_operation_model.specs.Turns.{said_event}
 use Rattle.rz_events.specs.declared.export.CallRef.{CallRef}
 use Rattle.rz_events.specs.declared.export.CallRef.TheVariants as export
-use Rattle.rz_play.specs.Turns.{text_said}
 use Rattle.rz_driver_asks.specs.declared.replies.CallTexts.{CallTexts}
 use Rattle.rz_driver_asks.specs.declared.replies.CallTexts.TheVariants as words
 
@@ -54,41 +48,11 @@ abbrev pub is_done : Saying → Bool
 is_done (SayDone answer) = true
 is_done said = false
 
--- no write with the stamp that a read found began
-abbrev pub IsUnbegunMark : Facts → ReadMark → Type 0
-IsUnbegunMark f (mark.Found stamp length) = f.wrote stamp ≡ None
-IsUnbegunMark f m = ⊥
-
-abbrev pub IsUnbegun : Facts → Saying → Type 0
-IsUnbegun f (SayGot key part m) = IsUnbegunMark f m
-IsUnbegun f said = ⊥
-
--- The text that the machine has in hand is noted. It is that of the write which it names; or, after earlier runs, that write did
--- not begin in this one.
-pub record IsSaid (earlier : Bool) (by : Actor) (number : ℕ) (said : Saying) (done : Bool) (old new : Machine) (log log' : List Event) : Type 0 where
+-- The text that the machine has in hand is noted.
+pub record IsSaid (by : Actor) (number : ℕ) (said : Saying) (done : Bool) (old new : Machine) (log log' : List Event) : Type 0 where
   pub done_is : done ≡ is_done said
   pub noted : log' ≡ said_event by number (text_of old) said ∷ log
   pub goes : Goes old old.pairs (Noted (text_of old)) new
-  pub known : (text_of old ≡ text_said (facts log) said) ⊎ ((earlier ≡ true) × IsUnbegun (facts log) said)
 
-abbrev pub IsSayPart : Bool → Actor → ℕ → Bool → Machine → Machine → List Event → List Event → Type 0
-IsSayPart earlier by number done old new log log' = (said : Saying) × (ask_of old.layout old.work ≡ Say said) × IsSaid earlier by number said done old new log log'
-
--- What may not be said over disks that tell: that records don't fit.
-
-abbrev pub is_bad_mark : ReadMark → Bool
-is_bad_mark mark.Inconsistent = true
-is_bad_mark m = false
-
-abbrev pub is_bad_left : LeftWhy → Bool
-is_bad_left left.Inconsistent = true
-is_bad_left why = false
-
-abbrev pub is_bad_saying : Saying → Bool
-is_bad_saying (SayGot key part m) = is_bad_mark m
-is_bad_saying (SayLeft key why) = is_bad_left why
-is_bad_saying said = false
-
-abbrev pub is_bad : Ask → Bool
-is_bad (Say said) = is_bad_saying said
-is_bad ask = false
+abbrev pub IsSayPart : Actor → ℕ → Bool → Machine → Machine → List Event → List Event → Type 0
+IsSayPart by number done old new log log' = (said : Saying) × (ask_of old.layout old.work ≡ Say said) × IsSaid by number said done old new log log'

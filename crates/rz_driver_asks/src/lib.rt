@@ -15,4 +15,4 @@ mod words;
 
 pub use locking::open;
 pub use replies::ask_export;
-pub use words::{is_bad, say};
+pub use words::say;

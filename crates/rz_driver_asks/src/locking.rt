@@ -37,7 +37,6 @@ pub fn open<D: Disk>(
     ensures left { OnErr result (EndsOn D.tells D.meter D.image export.old export.new) }
 
     // On every exit.
-    ensures earlier { log.new.earlier ≡ log.old.earlier }
     ensures journal { is_journaled export.new ≡ is_journaled export.old }
     ensures volume { (export_in export.new).volume ≡ (export_in export.old).volume }
 {

@@ -44,7 +44,6 @@ pub fn ask_export<D: Disk>(
     ensures left { OnErr result (EndsOn D.tells D.meter D.image export.old export.new) }
 
     // On every exit.
-    ensures earlier { log.new.earlier ≡ log.old.earlier }
     ensures journal { is_journaled export.new ≡ is_journaled export.old }
     ensures volume { (export_in export.new).volume ≡ (export_in export.old).volume }
 {
@@ -117,7 +116,6 @@ fn note_reply(
     requires room { 0 < log.old.room }
     ensures ok { OnOk result (IsNoted (export_event by (call_of ask.entry) reply.now) log.old.events log.new.events) }
     ensures err { OnErr result (log.new.events ≡ log.old.events) }
-    ensures earlier { log.new.earlier ≡ log.old.earlier }
 {
     match words {
         CallTexts::Call(call) => note_names(alloc, by, call, reply, log),
@@ -132,10 +130,12 @@ fn note(event: Option<Event>, log: &mut Log) -> Result<(), Halted>
     ensures ok { OnOk result (IsNoted event log.old.events log.new.events) }
     ensures err { OnErr result (log.new.events ≡ log.old.events) }
     ensures room { log.old.room ≤ log.new.room + 1 }
-    ensures earlier { log.new.earlier ≡ log.old.earlier }
 {
     match event {
-        Some(event) => log.note(event),
+        Some(event) => {
+            log.note(event);
+            Ok(())
+        }
         None => Err(Halted),
     }
 }
@@ -151,10 +151,12 @@ pub(crate) fn note_names(
     requires room { 0 < log.old.room }
     ensures ok { OnOk result (IsNoted (export_event by (Call.Tree call) reply.now) log.old.events log.new.events) }
     ensures err { OnErr result (log.new.events ≡ log.old.events) }
-    ensures earlier { log.new.earlier ≡ log.old.earlier }
 {
     match reply_on_names(alloc, reply) {
-        Ok(reply) => log.note(Event::Meta { by, call, reply }),
+        Ok(reply) => {
+            log.note(Event::Meta { by, call, reply });
+            Ok(())
+        }
         Err(fault) => {
             drop(call);
             Err(fault)

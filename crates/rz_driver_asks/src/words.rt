@@ -1,21 +1,20 @@
 //! Words of an actor's own.
-ghost use Rattle.std.specs.Prelude.{◌≡◌, ◌⊎◌, ◌<◌, Bool, true, IfOk, OnOk, OnErr};
+ghost use Rattle.std.specs.Prelude.{◌≡◌, ◌<◌, Bool, IfOk, OnErr};
 ghost use Rattle.rz_events.specs.declared.keys.Key.{Key as AKey};
-ghost use Rattle.rz_core.specs.History.{facts};
 ghost use Rattle.rz_operation_model.specs.Ask.{ask_of, Say, SayGot};
 ghost use Rattle.rz_operation_model.specs.Steps.{read_end};
 ghost use Rattle.rz_operation.specs.Machine.{text_of};
-ghost use Rattle.rz_play.specs.Turns.{found_text};
-ghost use Rattle.rz_driver_asks.specs.Parts.{IsSayPart, IsUnbegunMark, is_bad};
+ghost use Rattle.rz_driver_asks.specs.Parts.{IsSayPart};
 
-use rz_events::{Actor, Event, LeftWhy, ReadEnd, ReadMark, Text};
+use rz_events::{Actor, Event, ReadEnd, ReadMark, Text};
 use rz_log::{Halted, Log};
 use rz_operation::{Ask, Machine, Saying};
-use std::alloc::Global;
+use std::alloc::{AllocError, Global};
 
 /// Says what a machine is about to say, and answers whether that was the answer of its operation.
 ///
-/// A text that was found is that of the write which it names, unless that write began in an earlier run.
+/// A text that was found is that of the block which fits the records that came. Where disks tell their texts
+/// it is that of the write which it names.
 pub fn say(
     alloc: Global,
     by: Actor,
@@ -24,20 +23,19 @@ pub fn say(
     log: &mut Log,
 ) -> Result<bool, Halted>
     requires room { 0 < log.old.room }
-    ensures ok { IfOk result (λ done. IsSayPart log.old.earlier by number done machine.old machine.new log.old.events log.new.events) }
+    ensures ok { IfOk result (λ done. IsSayPart by number done machine.old machine.new log.old.events log.new.events) }
     ensures err { OnErr result (log.new.events ≡ log.old.events) }
-    ensures earlier { log.new.earlier ≡ log.old.earlier }
 {
     match machine.next() {
         Ask::Say(Saying::Got { key, part, mark }) => {
-            let end = end_of(alloc, machine, mark, log)?;
+            let end = end_of(alloc, machine, mark)?;
             log.note(Event::Got {
                 by,
                 number,
                 key,
                 part,
                 end,
-            })?;
+            });
             machine.tell_said();
             Ok(false)
         }
@@ -48,18 +46,18 @@ pub fn say(
                 key,
                 part,
                 end,
-            })?;
+            });
             machine.tell_said();
             Ok(false)
         }
         Ask::Say(Saying::Left { key, why }) => {
-            log.note(Event::Left { by, key, why })?;
+            log.note(Event::Left { by, key, why });
             machine.tell_said();
             Ok(false)
         }
         Ask::Say(Saying::Done(_)) => {
             let answer = machine.finish();
-            log.note(Event::Done { by, number, answer })?;
+            log.note(Event::Done { by, number, answer });
             Ok(true)
         }
         Ask::Export(_) | Ask::Lock { .. } | Ask::Node { .. } | Ask::Rest => Err(Halted),
@@ -67,18 +65,14 @@ pub fn say(
 }
 
 /// How a read ended, with the text that it found.
-fn end_of(alloc: Global, machine: &Machine, mark: ReadMark, log: &Log) -> Result<ReadEnd, Halted>
+fn end_of(alloc: Global, machine: &Machine, mark: ReadMark) -> Result<ReadEnd, AllocError>
     requires asked { (key : AKey) × (part : Bool) × (ask_of machine.now.layout machine.now.work ≡ Say (SayGot key part mark)) }
     ensures end { IfOk result (λ end. end ≡ read_end (text_of machine.now) mark) }
-    ensures known { OnOk result ((text_of machine.now ≡ found_text (facts log.now.events) mark) ⊎ ((log.now.earlier ≡ true) × IsUnbegunMark (facts log.now.events) mark)) }
 {
     match mark {
         ReadMark::Found { stamp, length } => {
             let mut text = Vec::from_elem(alloc, 0, length as usize)?;
             machine.text_into(&mut text);
-            if !log.has_text(stamp, text.as_slice()) {
-                return Err(Halted);
-            }
             Ok(ReadEnd::Found {
                 stamp,
                 text: Text::from_vec(text),
@@ -89,16 +83,5 @@ fn end_of(alloc: Global, machine: &Machine, mark: ReadMark, log: &Log) -> Result
         ReadMark::Inconsistent => Ok(ReadEnd::Inconsistent),
         ReadMark::Denied(why) => Ok(ReadEnd::Denied(why)),
         ReadMark::Moved { was, now } => Ok(ReadEnd::Moved { was, now }),
-    }
-}
-
-/// Whether a machine is about to say that the records which came fit no block.
-pub fn is_bad(machine: &Machine) -> bool
-    ensures { result ≡ is_bad (ask_of machine.now.layout machine.now.work) }
-{
-    match machine.next() {
-        Ask::Say(Saying::Got { mark, .. }) => matches!(mark, ReadMark::Inconsistent),
-        Ask::Say(Saying::Left { why, .. }) => matches!(why, LeftWhy::Inconsistent),
-        _ => false,
     }
 }

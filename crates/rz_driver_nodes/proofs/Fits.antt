@@ -1,9 +1,12 @@
--- Where a machine does not go on to say that the records fit no block, it was told as if they fit.
-use Rattle.std.proofs.Common.{◌≡◌, ◌⊎◌, inl, inr, ⊎_elim, ℕ, Bool, true, false, cond, List, refl, sym, ◌∙◌, ap}
+-- What a machine may say of records that fit no block. One that does not go on to say so was told as if they fit.
+use Rattle.std.proofs.Common.{◌≡◌, ◌⊎◌, inl, inr, ⊎_elim, ℕ, Bool, true, false, cond, List, refl, sym, ◌∙◌, ap, subst}
 use Rattle.std.specs.Prelude.{◌==◌, nat_lt}
 use Rattle.mj_angles.specs.declared.layout.Layout.{Layout}
 use Rattle.mj_angles.specs.Layout.{inverse_of}
 use Rattle.rz_events.specs.declared.ends.Seen.TheVariants as seen
+use Rattle.rz_events.specs.declared.ends.LeftWhy.{LeftWhy}
+use Rattle.rz_events.specs.declared.ends.LeftWhy.TheVariants as left
+use Rattle.rz_events.specs.declared.ends.ReadMark.{ReadMark}
 use Rattle.rz_events.specs.declared.ends.ReadMark.TheVariants as mark
 use Rattle.rz_events.specs.declared.nodes.FetchAnswer.{FetchAnswer}
 use Rattle.rz_events.specs.declared.nodes.FetchAnswer.TheVariants as fetch
@@ -18,11 +21,31 @@ use Rattle.rz_client_model.specs.declared.reading.Fetches.{Fetches}
 use Rattle.rz_client_model.specs.Read.{after_answer, after_fetch, unless_enough, with_record, with_seen, reader_told, end_at, ask_at}
 use Rattle.rz_operation.specs.Machine.{Machine}
 use Rattle.rz_operation.specs.Answers.{IsAnswered}
-use Rattle.rz_operation_model.specs.Ask.{ask_of, read_asks, is_part, rebuild_asks}
+use Rattle.rz_operation_model.specs.Ask.{Ask, Say, Saying, SayGot, SayLeft, ask_of, read_asks, is_part, rebuild_asks}
 use Rattle.rz_operation_model.specs.Rebuild.{RebuildState, Copying, Tally, after_read, base_told, rebuild_ask}
 use Rattle.rz_operation_model.specs.Steps.{Answered, told}
 use Rattle.rz_operation_model.specs.Work.{Work, Course, Calling, Dropping, Opening, Locking, Writing, Reading, Rebuilding, Ending, Over}
-use Rattle.rz_driver_asks.specs.Parts.{IsTold, is_bad}
+use Rattle.rz_play.specs.Free.{MayFit}
+use Rattle.rz_driver_asks.specs.Parts.{IsTold}
+
+-- What is not said over disks that tell their texts: that records fit no block.
+
+abbrev pub is_bad_mark : ReadMark → Bool
+is_bad_mark mark.Inconsistent = true
+is_bad_mark m = false
+
+abbrev pub is_bad_left : LeftWhy → Bool
+is_bad_left left.Inconsistent = true
+is_bad_left why = false
+
+abbrev pub is_bad_saying : Saying → Bool
+is_bad_saying (SayGot key part m) = is_bad_mark m
+is_bad_saying (SayLeft key why) = is_bad_left why
+is_bad_saying said = false
+
+abbrev pub is_bad : Ask → Bool
+is_bad (Say said) = is_bad_saying said
+is_bad ask = false
 
 never : {A : Type 0} (b : Bool) → b ≡ true → b ≡ false → A
 never b t f = let none : true ≡ false = sym t ∙ f in absurd (cc)
@@ -96,6 +119,29 @@ told-fetch true a m new layout work good = work
 told-fetch false a m new layout work good =
     work ∙ as-fit m.layout a m.work ((λ i. is_bad (ask_of (sym layout i) (sym work i))) ∙ good)
 
-pub told-true : (m : Machine) (a : NodeAnswer) (bins : List ℕ) (new : Machine) → IsAnswered m a bins new → is_bad (ask_of new.layout new.work) ≡ false → IsTold m new (Answered true a)
-told-true m (answer.Fetch a) bins new given good = record { layout = given.2.layout; work = told-fetch given.0 a m new given.2.layout given.2.work good }
-told-true m a bins new given good = record { layout = given.layout; work = given.work }
+-- what a machine was told of an answer
+pub told-so : (m : Machine) (a : NodeAnswer) (bins : List ℕ) (new : Machine) → IsAnswered m a bins new → (fits : Bool) × MayFit a fits × IsTold m new (Answered fits a)
+told-so m (answer.Fetch a) bins new given = (given.0, tt, record { layout = given.2.layout; work = given.2.work })
+told-so m (answer.Keep a) bins new given = (true, refl, record { layout = given.layout; work = given.work })
+told-so m (answer.Refill a) bins new given = (true, refl, record { layout = given.layout; work = given.work })
+told-so m (answer.Drop a) bins new given = (true, refl, record { layout = given.layout; work = given.work })
+told-so m (answer.Probe a) bins new given = (true, refl, record { layout = given.layout; work = given.work })
+told-so m (answer.Stop a) bins new given = (true, refl, record { layout = given.layout; work = given.work })
+told-so m (answer.Start a) bins new given = (true, refl, record { layout = given.layout; work = given.work })
+told-so m (answer.Lose a) bins new given = (true, refl, record { layout = given.layout; work = given.work })
+told-so m (answer.Replace a) bins new given = (true, refl, record { layout = given.layout; work = given.work })
+
+told-alone : (m new : Machine) (a : NodeAnswer) (fits : Bool) → fits ≡ true → IsTold m new (Answered fits a) → IsTold m new (Answered true a)
+told-alone m new a fits is told = subst (λ (b : Bool). IsTold m new (Answered b a)) is told
+
+-- one that does not go on to say that they fit no block
+pub told-true : (m new : Machine) (a : NodeAnswer) (fits : Bool) → MayFit a fits → IsTold m new (Answered fits a) → is_bad (ask_of new.layout new.work) ≡ false → IsTold m new (Answered true a)
+told-true m new (answer.Fetch a) fits may told good = record { layout = told.layout; work = told-fetch fits a m new told.layout told.work good }
+told-true m new (answer.Keep a) fits may told good = told-alone m new (answer.Keep a) fits may told
+told-true m new (answer.Refill a) fits may told good = told-alone m new (answer.Refill a) fits may told
+told-true m new (answer.Drop a) fits may told good = told-alone m new (answer.Drop a) fits may told
+told-true m new (answer.Probe a) fits may told good = told-alone m new (answer.Probe a) fits may told
+told-true m new (answer.Stop a) fits may told good = told-alone m new (answer.Stop a) fits may told
+told-true m new (answer.Start a) fits may told good = told-alone m new (answer.Start a) fits may told
+told-true m new (answer.Lose a) fits may told good = told-alone m new (answer.Lose a) fits may told
+told-true m new (answer.Replace a) fits may told good = told-alone m new (answer.Replace a) fits may told

@@ -1,10 +1,10 @@
 pub mod Rows
 mod Asks
-mod Fits
+pub mod Fits
 pub mod EventWords
 pub mod MeterLemmas
 pub mod PictureLemmas
-mod MessagePictures
+pub mod MessagePictures
 mod OrderPictures
 pub mod AskedLaws
 pub mod FetchLemmas

@@ -1,5 +1,5 @@
 -- A message to a node, beside the log.
-use Rattle.std.proofs.Common.{◌≡◌, ◌≢◌, ℕ, Bool, true, List, [], ◌∷◌, ◌++◌, Option, Some, None, refl, sym, ◌∙◌, ap, subst}
+use Rattle.std.proofs.Common.{◌≡◌, ◌≢◌, ℕ, Bool, true, false, List, [], ◌∷◌, ◌++◌, Option, Some, None, refl, sym, ◌∙◌, ap, subst}
 use Rattle.std.specs.Prelude.{IfSome}
 use Rattle.mj_angles.specs.declared.layout.Layout.{Layout}
 use Rattle.rz_events.specs.Volume.{Volume}
@@ -29,8 +29,6 @@ use Rattle.rz_operation.specs.Machine.{Machine, HasBinsFor}
 use Rattle.rz_operation_model.specs.Ask.{Ask, AskExport, AskNode, AskLock, Say, Rest, SayGot, SayGave, SayLeft, SayDone, ask_of}
 use Rattle.rz_operation_model.specs.Steps.{Missed}
 use Rattle.rz_operation_model.specs.Turns.{IsStep, ReplyLost, goes_by_link}
-use Rattle.rz_log.specs.Logged.{stamp_begun}
-use Rattle.rz_driver_asks.specs.Parts.{is_bad}
 use Rattle.rz_play_laws.specs.Own.{IsOfActor}
 use Rattle.rz_node_laws.specs.Images.{IsImaged}
 use Rattle.rz_block_laws.specs.Laws.{IsMessage, IsFittingLaw}
@@ -38,20 +36,9 @@ use Rattle.rz_block_laws.specs.Turns.{HasInHand, IsTrueActor, IsHeard, IsHeardLa
 use Rattle.rz_driver_nodes.specs.Nodes.{IsAsked, IsFetchOf}
 use Rattle.rz_driver_nodes.specs.Images.{HasImages, KeepsNode, SparesNode}
 use Rattle.rz_driver_nodes.proofs.EventWords.{node-word}
+use Rattle.rz_driver_nodes.proofs.Fits.{is_bad}
 
 -- ---- events of nodes
-
--- an event of a node begins no write
-pub quiet : (n : ℕ) (x : Event) → word_of x ≡ Node n → stamp_begun x ≡ None
-quiet n (e.Begin by key stamp base text) own = absurd (cc)
-quiet n (_) own = refl
-
-quiet-if : (n : ℕ) (o : Option Event) → IfSome o (λ x. word_of x ≡ Node n) → (x : Event) → o ≡ Some x → stamp_begun x ≡ None
-quiet-if n None own x is = absurd (cc)
-quiet-if n (Some y) own x is = let same : y ≡ x = cc in ap stamp_begun (sym same) ∙ quiet n y own
-
-pub node-quiet : (by : Actor) (n : ℕ) (question : NodeAsk) (given : NodeAnswer) (x : Event) → node_event by n question given ≡ Some x → stamp_begun x ≡ None
-node-quiet by n question given x is = quiet-if n (node_event by n question given) (node-word by n question given) x is
 
 -- an answer to an actor has no event only where memory was wanting, and leaves the state as it is
 no-event : (by : Actor) (n cells : ℕ) (s : NodeState) (question : NodeAsk) (given : NodeAnswer) → IsOfActor question → IsNodeAnswer cells s question given → node_event by n question given ≡ None → after_answer question given s ≡ s
@@ -115,8 +102,13 @@ bad-said (Say (SayGot key part (mark.Moved was now))) is got leaves = cc
 bad-said (Say (SayLeft key left.Inconsistent)) is got leaves = leaves key refl
 bad-said (Say (SayLeft key _)) is got leaves = cc
 
-pub never-bad : (v : Volume) → IsFittingLaw v → (f : Facts) (m : Machine) → HasInHand v f m → is_bad (ask_of m.layout m.work) ≡ true → ⊥
-never-bad v fitting f m hand is = bad-said (ask_of m.layout m.work) is (λ key part. (fitting f m hand key).0 part) (λ key. (fitting f m hand key).1)
+-- what a machine has in hand never makes it say so
+pub never-bad : (v : Volume) → IsFittingLaw v → (f : Facts) (m : Machine) → HasInHand v f m → is_bad (ask_of m.layout m.work) ≡ false
+never-bad v fitting f m hand = go (is_bad (ask_of m.layout m.work)) refl
+  where
+    go : (b : Bool) → is_bad (ask_of m.layout m.work) ≡ b → b ≡ false
+    go false is = refl
+    go true is = absurd (bad-said (ask_of m.layout m.work) is (λ key part. (fitting f m hand key).0 part) (λ key. (fitting f m hand key).1))
 
 -- ---- the bins that are handed to a node
 
@@ -177,10 +169,6 @@ module _ {D : Type 0} (text : D → List ℕ) (image : D → List ℕ → Type 0
   module _ (x : Event) (is : node_event by n question given ≡ Some x) (new : Machine) (answered : IsAnswered m given bins new) where
     hand : (v : Volume) (old more : List Event) → IsTrueActor v (facts (h ++ old)) by m → HasImages image v (facts (h ++ old)) n node → HasInHand v (facts (more ++ (h ++ old))) new
     hand v old more actor has = (heard v old more actor has).hand x new (record { event = is; answered = answered })
-
-    -- the machine never says that records fit no block
-    pub good-always : ((v : Volume) → IsFittingLaw v) → is_bad (ask_of new.layout new.work) ≡ true → SparesNode image by n m node node' h
-    good-always fitting bad = λ v old actor has. absurd (never-bad v (fitting v) (facts (h ++ old)) new (hand v old [] actor has) bad)
 
     pub keeps-through : (h' : List Event) → h' ≡ x ∷ h → KeepsNode image by n m new node node' h h'
     keeps-through h' log_is = λ v old actor has. (

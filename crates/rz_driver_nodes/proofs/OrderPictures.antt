@@ -21,13 +21,11 @@ use Rattle.rz_node.specs.Opens.{IfStarted, IfTook}
 use Rattle.rz_node.specs.View.{NodeView}
 use Rattle.rz_node.specs.Leaves.{Leaves}
 use Rattle.rz_core.specs.History.{Facts, facts}
-use Rattle.rz_log.specs.Logged.{stamp_begun}
 use Rattle.rz_node_laws.specs.Images.{IsImaged, geometry_in}
 use Rattle.rz_node_laws.specs.Laws.{IsCallLaw, IsCrashLaw, IsFewerLaw, IsLongerLaw}
 use Rattle.rz_node_laws.specs.Records.{HandsRecord}
 use Rattle.rz_nodes.specs.declared.formatting.Server.{Server}
 use Rattle.rz_driver_nodes.specs.Images.{HasImages, KeepsImages, KeepsRow, SparesRow}
-use Rattle.rz_driver_nodes.proofs.MessagePictures.{node-quiet}
 use Rattle.rz_driver_nodes.proofs.PictureLemmas.{GrowsBy, grows-behind, row-longer, row-set, row-at, states-stay}
 
 module _ {D : Type 0} (image : D → List ℕ → Type 0) where
@@ -95,11 +93,3 @@ module _ (g : Geometry) (s : NodeState) (tells : Bool) (told : IsTrue tells) (te
   starts (start.Unopened cause) branch settled same within = within
 
 -- ---- the event of an order is always noted
-
--- an event of a node begins no write
-pub order-quiet : {P : Type 0} (n : ℕ) (question : NodeAsk) (given : NodeAnswer) (o : Option Event) → o ≡ node_event Admin n question given → IsSomeAnd o (λ x. stamp_begun x ≢ None) → P
-order-quiet {P = P} n question given o same begins = go o refl begins
-  where
-    go : (p : Option Event) → o ≡ p → IsSomeAnd p (λ x. stamp_begun x ≢ None) → P
-    go None is never = absurd never
-    go (Some x) is not_none = absurd (not_none (node-quiet Admin n question given x (sym same ∙ is)))

@@ -12,9 +12,15 @@ use Rattle.rz_events.specs.declared.events.Event.TheVariants as e
 use Rattle.rz_node_model.specs.Answers.{IsNodeAnswer}
 use Rattle.rz_node_model.specs.Afterwards.{after_answer}
 use Rattle.rz_node_model.specs.NodeEvents.{node_event}
-use Rattle.rz_play.specs.Lines.{IsTold, noted}
+use Rattle.rz_play.specs.Lines.{IsStartedAs, IsTold, noted}
 use Rattle.rz_nodes.specs.declared.formatting.Server.{Server}
 use Rattle.rz_driver_nodes.specs.Servers.{IsAt, IsCalled}
+
+-- a node is told to stop, or to lose its disk
+abbrev pub StopsOrLoses : NodeAsk → Type 0
+StopsOrLoses ask.Stop = Unit {0}
+StopsOrLoses ask.Lose = Unit {0}
+StopsOrLoses question = ⊥
 
 -- a node answered the administrator
 pub record IsOrder {D : Type 0} (question : NodeAsk) (s s' : Server D) (event : Option Event) : Type 0 where
@@ -25,11 +31,12 @@ pub record IsOrder {D : Type 0} (question : NodeAsk) (s s' : Server D) (event : 
   pub event_is : event ≡ node_event Admin s.sid question given
   pub called : IsCalled s s'
 
--- a node was started, and nothing is said of what it found
+-- a node was started, and nothing is said of what it found; one that did not start is as it was
 pub record IsFreeOrder {D : Type 0} (s s' : Server D) (event : Option Event) : Type 0 where
   pub given : NodeAnswer
   pub given_is : IsNodeAnswer s.node.geometry.cells s.node.state ask.Start given
   pub answered : given ≢ answer.Start start.NoMemory
+  pub started : IsStartedAs given s.node.state s'.node.state
   pub event_is : event ≡ node_event Admin s.sid ask.Start given
   pub called : IsCalled s s'
 

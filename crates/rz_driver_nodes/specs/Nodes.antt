@@ -1,5 +1,5 @@
 -- What a message to a node makes of the parts that it uses.
-use Rattle.std.specs.Prelude.{ℕ, true, false, ◌≡◌, ◌<◌, List, ◌∷◌, Some}
+use Rattle.std.specs.Prelude.{ℕ, Bool, true, false, ◌≡◌, ◌<◌, List, ◌∷◌, Some}
 use Rattle.mj_angles.specs.declared.layout.Layout.{Layout}
 use Rattle.mj_angles.specs.Layout.{safe_of}
 use Rattle.rz_events.specs.declared.keys.Actor.{Actor}
@@ -18,6 +18,7 @@ use Rattle.rz_operation.specs.Answers.{Goes}
 use Rattle.rz_operation.specs.Machine.{Machine}
 use Rattle.rz_operation_model.specs.Ask.{AskNode, ask_of}
 use Rattle.rz_operation_model.specs.Steps.{Answered, Missed}
+use Rattle.rz_play.specs.Free.{MayFit}
 use Rattle.rz_driver_asks.specs.Parts.{IsTold, IsNoted}
 
 -- the machine asks this of the node
@@ -39,12 +40,14 @@ pub record IsServed (cells : ℕ) (question : NodeAsk) (given : NodeAnswer) (s s
   pub given_is : IsNodeAnswer cells s question given
   pub after : s' ≡ after_answer question given s
 
--- the message came through
+-- the message came through; the records that came may fit no block
 pub record IsThroughPart (by : Actor) (n cells : ℕ) (question : NodeAsk) (s s' : NodeState) (old new : Machine) (log log' : List Event) : Type 0 where
   pub given : NodeAnswer
   pub served : IsServed cells question given s s'
   pub noted : IsNoted (node_event by n question given) log log'
-  pub goes : IsTold old new (Answered true given)
+  pub fits : Bool
+  pub may_fit : MayFit given fits
+  pub goes : IsTold old new (Answered fits given)
 
 -- its answer was lost
 pub record IsReplyLostPart (by : Actor) (n cells : ℕ) (question : NodeAsk) (s s' : NodeState) (old new : Machine) (log log' : List Event) : Type 0 where

@@ -1,13 +1,12 @@
 //! The administrator's lines: a node stops, starts or loses its disk, or its disk is armed.
-ghost use Rattle.std.specs.Prelude.{◌≡◌, ◌≢◌, ◌⊎◌, ◌<◌, ◌≤◌, ℕ, List, Some, None, IfOk, IsSomeAnd, OnOk, OnErr, IsTrue};
+ghost use Rattle.std.specs.Prelude.{◌≡◌, ◌⊎◌, ◌<◌, ◌≤◌, ℕ, List, Some, IfOk, OnOk, OnErr, IsTrue};
 ghost use Rattle.rz_events.specs.declared.nodes.NodeAsk.TheVariants as ask;
 ghost use Rattle.rz_events.specs.declared.events.Event.TheVariants as e;
 ghost use Rattle.rz_play.specs.Lines.{noted};
-ghost use Rattle.rz_log.specs.Logged.{stamp_begun};
 ghost use Rattle.rz_driver_nodes.specs.Images.{KeepsImages, KeepsRow, SparesRow};
 ghost use Rattle.rz_driver_nodes.specs.Meters.{AreMetered, AreCounted, CarriesCounts, Goes};
 ghost use Rattle.rz_driver_nodes.specs.Servers.{IsCalled};
-ghost use Rattle.rz_driver_nodes.specs.Administration.{IsOrdered, IsOrder, IsFreeOrder, IsStarted, IsArmed, IsArming, IsCalledAt, IsCrashedAt};
+ghost use Rattle.rz_driver_nodes.specs.Administration.{StopsOrLoses, IsOrdered, IsOrder, IsFreeOrder, IsStarted, IsArmed, IsArming, IsCalledAt, IsCrashedAt};
 
 use crate::server::find;
 use rz_disk::Disk;
@@ -18,11 +17,16 @@ use rz_nodes::Server;
 use rz_player::Halted;
 use std::alloc::Global;
 
-/// The node of this number stops.
-pub fn stop_node<D: Disk>(servers: &mut [Server<D>], log: &mut Log, sid: u16) -> Result<(), Halted>
-    ensures ok { OnOk result (IsOrdered ask.Stop sid servers.old servers.new log.old.events log.new.events) }
+/// The node of this number stops, or loses its disk.
+pub fn order_node<D: Disk>(
+    servers: &mut [Server<D>],
+    log: &mut Log,
+    sid: u16,
+    ask: &NodeAsk,
+) -> Result<(), Halted>
+    requires ask { StopsOrLoses ask.now }
+    ensures ok { OnOk result (IsOrdered ask.now sid servers.old servers.new log.old.events log.new.events) }
     ensures err { OnErr result (log.new.events ≡ log.old.events) }
-    ensures earlier { log.new.earlier ≡ log.old.earlier }
     ensures held { OnOk result ((numbers : List ℕ) → CarriesCounts (AreMetered D.meter numbers servers.old log.old.events) (AreMetered D.meter numbers servers.new log.new.events)) }
     ensures left { OnErr result ((numbers : List ℕ) → CarriesCounts (AreMetered D.meter numbers servers.old log.old.events) (AreCounted D.meter numbers servers.new log.new.events)) }
     ensures pictured { OnOk result (IsTrue D.tells → KeepsRow D.image servers.old log.old.events servers.new log.new.events) }
@@ -33,27 +37,9 @@ pub fn stop_node<D: Disk>(servers: &mut [Server<D>], log: &mut Log, sid: u16) ->
         return Err(Halted);
     };
     log.make_room()?;
-    let event = stop(&mut servers[place]);
-    note(log, event)
-}
-
-/// The node of this number loses its disk.
-pub fn lose_node<D: Disk>(servers: &mut [Server<D>], log: &mut Log, sid: u16) -> Result<(), Halted>
-    ensures ok { OnOk result (IsOrdered ask.Lose sid servers.old servers.new log.old.events log.new.events) }
-    ensures err { OnErr result (log.new.events ≡ log.old.events) }
-    ensures earlier { log.new.earlier ≡ log.old.earlier }
-    ensures held { OnOk result ((numbers : List ℕ) → CarriesCounts (AreMetered D.meter numbers servers.old log.old.events) (AreMetered D.meter numbers servers.new log.new.events)) }
-    ensures left { OnErr result ((numbers : List ℕ) → CarriesCounts (AreMetered D.meter numbers servers.old log.old.events) (AreCounted D.meter numbers servers.new log.new.events)) }
-    ensures pictured { OnOk result (IsTrue D.tells → KeepsRow D.image servers.old log.old.events servers.new log.new.events) }
-    ensures spared { OnErr result (IsTrue D.tells → SparesRow D.image servers.old log.old.events servers.new) }
-{
-    rz_node_laws::longer::<D>();
-    let Some(place) = find(servers, sid) else {
-        return Err(Halted);
-    };
-    log.make_room()?;
-    let event = lose(&mut servers[place]);
-    note(log, event)
+    let event = order(&mut servers[place], ask);
+    note(log, event);
+    Ok(())
 }
 
 /// The node of this number starts again. What it finds is said of a disk that tells its text.
@@ -73,7 +59,6 @@ pub fn start_node<D: Disk>(
     ensures ok { OnOk result (IsTrue D.tells → IsOrdered ask.Start sid servers.old servers.new log.old.events log.new.events) }
     ensures started { OnOk result (IsStarted sid servers.old servers.new log.old.events log.new.events) }
     ensures err { OnErr result (log.new.events ≡ log.old.events) }
-    ensures earlier { log.new.earlier ≡ log.old.earlier }
     ensures held { OnOk result ((numbers : List ℕ) → CarriesCounts (AreMetered D.meter numbers servers.old log.old.events) (AreMetered D.meter numbers servers.new log.new.events)) }
     ensures left { OnErr result ((numbers : List ℕ) → CarriesCounts (AreMetered D.meter numbers servers.old log.old.events) (AreCounted D.meter numbers servers.new log.new.events)) }
     ensures pictured { OnOk result (IsTrue D.tells → KeepsRow D.image servers.old log.old.events servers.new log.new.events) }
@@ -85,7 +70,8 @@ pub fn start_node<D: Disk>(
     };
     log.make_room()?;
     let event = start(alloc, &mut servers[place])?;
-    note(log, event)
+    note(log, event);
+    Ok(())
 }
 
 /// The disk of the node of this number lets so many device calls pass, and its next crash picks by
@@ -100,7 +86,6 @@ pub fn arm_node<D: Disk>(
     requires fuse { IsTrue D.has_fuse }
     ensures ok { OnOk result (IsArming passes pick sid servers.old servers.new log.old.events log.new.events) }
     ensures err { OnErr result (log.new.events ≡ log.old.events) }
-    ensures earlier { log.new.earlier ≡ log.old.earlier }
     ensures held { OnOk result ((numbers : List ℕ) → CarriesCounts (AreMetered D.meter numbers servers.old log.old.events) (AreMetered D.meter numbers servers.new log.new.events)) }
     ensures left { OnErr result ((numbers : List ℕ) → CarriesCounts (AreMetered D.meter numbers servers.old log.old.events) (AreCounted D.meter numbers servers.new log.new.events)) }
     ensures pictured { OnOk result (IsTrue D.tells → KeepsRow D.image servers.old log.old.events servers.new log.new.events) }
@@ -116,20 +101,31 @@ pub fn arm_node<D: Disk>(
         node: sid,
         k: passes,
         pick,
-    })
+    });
+    Ok(())
 }
 
 /// Notes the event of a line that applies.
-fn note(log: &mut Log, event: Option<Event>) -> Result<(), Halted>
+fn note(log: &mut Log, event: Option<Event>)
     requires room { 0 < log.old.room }
-    ensures ok { OnOk result (log.new.events ≡ noted event log.old.events) }
-    ensures err { OnErr result (log.new.events ≡ log.old.events) }
-    ensures earlier { log.new.earlier ≡ log.old.earlier }
-    ensures begins { OnErr result (IsSomeAnd event (λ x. stamp_begun x ≢ None)) }
+    ensures { log.new.events ≡ noted event log.old.events }
 {
-    match event {
-        Some(event) => log.note(event),
-        None => Ok(()),
+    if let Some(event) = event {
+        log.note(event);
+    }
+}
+
+/// A node stops, or loses its disk.
+fn order<D: Disk>(server: &mut Server<D>, ask: &NodeAsk) -> Option<Event>
+    requires ask { StopsOrLoses ask.now }
+    ensures order { IsOrder ask.now server.old server.new result }
+    ensures metered { Goes D.meter server.old server.new result }
+    ensures counted { (D.meter server.old.node.disk).own ≤ (D.meter server.new.node.disk).own }
+    ensures images { IsTrue D.tells → KeepsImages D.image server.old server.new }
+{
+    match ask {
+        NodeAsk::Lose => lose(server),
+        _ => stop(server),
     }
 }
 

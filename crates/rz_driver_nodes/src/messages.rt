@@ -1,23 +1,20 @@
 //! Messages to nodes.
-ghost use Rattle.std.specs.Prelude.{◌≡◌, ◌↔◌, ◌<◌, ◌≤◌, ℕ, List, true, IsTrue, OnOk, OnErr, IfOk, length, not};
+ghost use Rattle.std.specs.Prelude.{◌≡◌, ◌↔◌, ◌<◌, ◌≤◌, ℕ, List, true, IsTrue, OnOk, OnErr, IfOk, length};
 ghost use Rattle.rz_cells_slots.specs.Opening.{opening_calls};
 ghost use Rattle.mj_angles.specs.Layout.{max_bins_of};
 ghost use Rattle.rz_block_laws.specs.Laws as laws;
 ghost use Rattle.rz_node.specs.Calls.{Counts, IsNoStart};
 ghost use Rattle.rz_operation.specs.Answers.{IsAnswered, IsAnswerTo};
-ghost use Rattle.rz_operation_model.specs.Ask.{ask_of};
 ghost use Rattle.rz_operation_model.specs.Turns.{goes_by_link};
 ghost use Rattle.rz_play_laws.specs.Own.{IsOfActor};
 ghost use Rattle.rz_driver_nodes.specs.Nodes.{IsServed, IsAsked, IsFetchOf, IsPlaced, IsThroughPart, IsReplyLostPart, IsRequestLostPart};
 ghost use Rattle.rz_driver_nodes.specs.Meters.{GoesOn};
 ghost use Rattle.rz_driver_nodes.specs.Images.{KeepsNode, SparesNode};
-ghost use Rattle.rz_driver_asks.specs.Parts.{is_bad};
 
 use mj_angles::Layout;
 use rz_disk::Disk;
-use rz_driver_asks::is_bad;
 use rz_events::{Actor, Event, FetchAnswer, NodeAnswer, NodeAsk};
-use rz_log::{Log, let_go};
+use rz_log::Log;
 use rz_node::{Node, answer_node, is_record, node_event};
 use rz_operation::Machine;
 use rz_player::Halted;
@@ -82,28 +79,21 @@ fn is_fetch_of(layout: Layout, answer: &NodeAnswer) -> bool
     }
 }
 
-/// Tells a machine an answer, and whether it goes on: it does not where the records that came fit no block.
-fn tell(
-    layout: Layout,
-    machine: &mut Machine,
-    ask: &NodeAsk,
-    answer: NodeAnswer,
-    bins: &[u64],
-) -> bool
+/// Tells a machine an answer, with the bins that came.
+fn tell(layout: Layout, machine: &mut Machine, ask: &NodeAsk, answer: NodeAnswer, bins: &[u64])
     requires machine { machine.old.layout ≡ layout }
     requires asked { (n : ℕ) × IsAsked machine.old n ask.now }
     requires placed { IsPlaced layout ask.now }
     requires answers { IsAnswerTo layout ask.now answer }
     requires bins { max_bins_of layout ≤ length bins.now }
-    ensures goes { result ≡ not (is_bad (ask_of machine.new.layout machine.new.work)) }
-    ensures answered { IsAnswered machine.old answer bins.now machine.new }
+    ensures { IsAnswered machine.old answer bins.now machine.new }
 {
     let _most = layout.max_bins();
     machine.tell_answer(answer, bins);
-    !is_bad(machine)
 }
 
-/// The message comes through.
+/// The message comes through. Where the disk does not tell its text, the records that came may fit no block:
+/// the machine is told so, and goes on.
 pub fn through<D: Disk>(
     alloc: Global,
     layout: Layout,
@@ -122,7 +112,6 @@ pub fn through<D: Disk>(
     requires room { 0 < log.old.room }
     ensures ok { OnOk result (IsThroughPart by number node.old.geometry.cells ask node.old.state node.new.state machine.old machine.new log.old.events log.new.events) }
     ensures err { OnErr result (log.new.events ≡ log.old.events) }
-    ensures earlier { log.new.earlier ≡ log.old.earlier }
     ensures geometry { node.new.geometry ≡ node.old.geometry }
     ensures metered { OnOk result (GoesOn D.meter number node.old node.new log.old.events log.new.events) }
     ensures counted { (D.meter node.old.disk).own ≤ (D.meter node.new.disk).own }
@@ -131,7 +120,6 @@ pub fn through<D: Disk>(
 {
     rz_node_laws::faults();
     rz_block_laws::heard::<D>();
-    rz_block_laws::fitting();
     if !is_placed(layout, &ask) {
         return Err(Halted);
     }
@@ -142,11 +130,9 @@ pub fn through<D: Disk>(
     let Some(event) = node_event(by, number, &ask, &answer) else {
         return Err(Halted);
     };
-    if !tell(layout, machine, &ask, answer, bins) {
-        let_go(event);
-        return Err(Halted);
-    }
-    log.note(event)
+    tell(layout, machine, &ask, answer, bins);
+    log.note(event);
+    Ok(())
 }
 
 /// The node is given the call, and its answer is lost.
@@ -168,7 +154,6 @@ pub fn without_reply<D: Disk>(
     requires room { 2 ≤ log.old.room }
     ensures ok { OnOk result (IsReplyLostPart by number node.old.geometry.cells ask node.old.state node.new.state machine.old machine.new log.old.events log.new.events) }
     ensures err { OnErr result (log.new.events ≡ log.old.events) }
-    ensures earlier { log.new.earlier ≡ log.old.earlier }
     ensures geometry { node.new.geometry ≡ node.old.geometry }
     ensures metered { OnOk result (GoesOn D.meter number node.old node.new log.old.events log.new.events) }
     ensures counted { (D.meter node.old.disk).own ≤ (D.meter node.new.disk).own }
@@ -183,35 +168,26 @@ pub fn without_reply<D: Disk>(
         return Err(Halted);
     };
     machine.tell_missed();
-    log.note_two(
-        event,
-        Event::Missed {
-            by,
-            node: number,
-            reply: true,
-        },
-    )
+    log.note(event);
+    log.note(Event::Missed {
+        by,
+        node: number,
+        reply: true,
+    });
+    Ok(())
 }
 
 /// The message is lost.
-pub fn without_request(
-    by: Actor,
-    number: u16,
-    machine: &mut Machine,
-    ask: NodeAsk,
-    log: &mut Log,
-) -> Result<(), Halted>
+pub fn without_request(by: Actor, number: u16, machine: &mut Machine, ask: NodeAsk, log: &mut Log)
     requires asked { IsAsked machine.old number ask }
     requires lossy { goes_by_link ask ≡ true }
     requires room { 0 < log.old.room }
-    ensures ok { OnOk result (IsRequestLostPart by number machine.old machine.new log.old.events log.new.events) }
-    ensures err { OnErr result (log.new.events ≡ log.old.events) }
-    ensures earlier { log.new.earlier ≡ log.old.earlier }
+    ensures { IsRequestLostPart by number machine.old machine.new log.old.events log.new.events }
 {
     machine.tell_missed();
     log.note(Event::Missed {
         by,
         node: number,
         reply: false,
-    })
+    });
 }

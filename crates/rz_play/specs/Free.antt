@@ -1,45 +1,42 @@
--- Plays over disks of which some may not tell their texts, as real files: what a start finds on such a disk is not said. All
--- else is as in any play.
-use Rattle.std.specs.Prelude.{ℕ, Bool, false, ◌≡◌, ◌≢◌, ◌⊎◌, List, [], ◌∷◌}
+-- Turns over disks of which some may not tell their texts, as real files. A node answers by what it knows, as ever; what a read
+-- finds on such a disk is not said: the records that came may fit no block, and a read may find any text.
+use Rattle.std.specs.Prelude.{ℕ, Bool, true, false, ◌≡◌, ◌⊎◌, List, [], ◌∷◌}
 use Rattle.rz_events.specs.Volume.{Volume}
-use Rattle.rz_events.specs.declared.keys.Actor.TheVariants.{Admin}
-use Rattle.rz_events.specs.declared.nodes.NodeAsk.TheVariants as ask
+use Rattle.rz_events.specs.declared.keys.Actor.{Actor}
+use Rattle.rz_events.specs.declared.nodes.NodeAsk.{NodeAsk}
 use Rattle.rz_events.specs.declared.nodes.NodeAnswer.{NodeAnswer}
 use Rattle.rz_events.specs.declared.nodes.NodeAnswer.TheVariants as answer
-use Rattle.rz_events.specs.declared.nodes.StartAnswer.TheVariants as start
-use Rattle.rz_node_model.specs.States.{NodeState}
-use Rattle.rz_node_model.specs.Answers.{IsNodeAnswer}
-use Rattle.rz_node_model.specs.NodeEvents.{node_event}
-use Rattle.rz_core.specs.NodeRows.{cells_of}
-use Rattle.rz_script.specs.declared.line.Line.{Line}
-use Rattle.rz_script.specs.declared.line.Line.TheVariants as line
-use Rattle.rz_play.specs.World.{World, with_node}
-use Rattle.rz_play.specs.Lines.{PlaysLine, noted}
-use Rattle.rz_play.specs.Stops.{StopCause, StopsLine, BeginsLine}
+use Rattle.rz_events.specs.declared.events.Event.{Event}
+use Rattle.rz_operation_model.specs.Ask.{Ask, AskNode, Say, Saying, ask_of}
+use Rattle.rz_operation_model.specs.Turns.{said_event}
+use Rattle.rz_operation_model.specs.Steps.{Answered, Noted}
+use Rattle.rz_play.specs.World.{World, Agenda, at_work}
+use Rattle.rz_play.specs.Turns.{IsTurn, IsAskTurn, IsNodeTurn, IsGiven, IsThrough, advanced, answered, counted, lock_after, moved}
 
--- a node is started, and it may hold anything afterwards
-pub record IsFreeStart (v : Volume) (n : ℕ) (w next : World) : Type 0 where
-  pub given : NodeAnswer
-  pub given_is : IsNodeAnswer (cells_of v n) (w.nodes n) ask.Start given
-  pub answered : given ≢ answer.Start start.NoMemory
-  pub state : NodeState
-  pub next_is : next ≡ record (with_node w n state) { log = noted (node_event Admin n ask.Start given) w.log }
+-- the records that came with a fetch may fit no block; nothing comes with another answer
+abbrev pub MayFit : NodeAnswer → (fits : Bool) → Type 0
+MayFit (answer.Fetch a) fits = Unit {0}
+MayFit given fits = fits ≡ true
 
--- a line, over disks that tell their texts or that do not
-abbrev pub PlaysLineOver : Volume → Line → Bool → World → World → Type 0
-PlaysLineOver v (line.Start n) false w next = IsFreeStart v n w next
-PlaysLineOver v l tells w next = PlaysLine v l w next
+-- the request and the answer come through
+abbrev pub IsFreeThrough : Volume → World → Actor → Agenda → ℕ → NodeAsk → World → Type 0
+IsFreeThrough v w by s n question next = (given : NodeAnswer) × (x : Event) × (fits : Bool) × MayFit given fits × IsGiven v w by n question given x
+    × IsThrough s.miss question × (next ≡ moved (answered w n question given) by (advanced v s (Answered fits given)) (x ∷ []))
 
--- The lines one after another, whole or cut off.
+-- the actor says a word of its own, with any text that it may have found
+abbrev pub IsFreeSay : Volume → World → Actor → Agenda → Saying → World → Type 0
+IsFreeSay v w by s said next = (text : List ℕ)
+    × (next ≡ moved w by (record (advanced v s (Noted text)) { lock = lock_after said s.lock }) (said_event by s.number text said ∷ []))
 
-abbrev pub PlaysLinesOver : Volume → List Line → Bool → World → World → Type 0
-PlaysLinesOver v [] tells w next = next ≡ w
-PlaysLinesOver v (l ∷ lines) tells w next = (mid : World) × PlaysLineOver v l tells w mid × PlaysLinesOver v lines tells mid next
+abbrev pub IsFreeAskTurn : Volume → World → Actor → Agenda → Ask → World → Type 0
+IsFreeAskTurn v w by s (AskNode n question) next = IsNodeTurn v w by s n question next ⊎ IsFreeThrough v w by s n question next
+IsFreeAskTurn v w by s (Say said) next = IsFreeSay v w by s said next
+IsFreeAskTurn v w by s ask next = IsAskTurn v w by s ask next
 
-abbrev pub StopsLinesOver : Volume → StopCause → List Line → Bool → World → World → Type 0
-StopsLinesOver v cause [] tells w next = ⊥
-StopsLinesOver v cause (l ∷ lines) tells w next = StopsLine v cause l w next ⊎ ((mid : World) × PlaysLineOver v l tells w mid × StopsLinesOver v cause lines tells mid next)
+abbrev pub IsFreeTurn : Volume → Actor → World → World → Type 0
+IsFreeTurn v by w next = let s = at_work (w.agendas by) in IsFreeAskTurn v (counted w) by s (ask_of v.layout s.work) next
 
-abbrev pub BeginsLinesOver : Volume → List Line → Bool → World → World → Type 0
-BeginsLinesOver v [] tells w next = next ≡ w
-BeginsLinesOver v (l ∷ lines) tells w next = BeginsLine v l w next ⊎ ((mid : World) × PlaysLineOver v l tells w mid × BeginsLinesOver v lines tells mid next)
+-- A turn of the actor, over disks that tell their texts or that do not.
+abbrev pub IsTurnOver : Volume → Actor → (tells : Bool) → World → World → Type 0
+IsTurnOver v by true w next = IsTurn v by w next
+IsTurnOver v by false w next = IsFreeTurn v by w next

@@ -1,5 +1,5 @@
 -- What a line of a script may be, played to its end.
-use Rattle.std.specs.Prelude.{ℕ, zero, suc, Bool, true, false, ◌≡◌, List, [], ◌∷◌, ◌++◌, Option, Some, None}
+use Rattle.std.specs.Prelude.{ℕ, zero, suc, Bool, true, false, ◌≡◌, ◌≢◌, List, [], ◌∷◌, ◌++◌, Option, Some, None}
 use Rattle.std.specs.List.{AllByRecursion}
 use Rattle.rz_events.specs.Volume.{Volume}
 use Rattle.rz_events.specs.declared.keys.Actor.{Actor}
@@ -11,6 +11,7 @@ use Rattle.rz_events.specs.declared.nodes.NodeAnswer.TheVariants as answer
 use Rattle.rz_events.specs.declared.nodes.StartAnswer.TheVariants as start
 use Rattle.rz_events.specs.declared.events.Event.{Event}
 use Rattle.rz_events.specs.declared.events.Event.TheVariants as e
+use Rattle.rz_node_model.specs.States.{NodeState, opened}
 use Rattle.rz_node_model.specs.Answers.{IsNodeAnswer}
 use Rattle.rz_node_model.specs.NodeEvents.{node_event}
 use Rattle.rz_core.specs.NodeRows.{cells_of}
@@ -18,28 +19,43 @@ use Rattle.rz_core.specs.Tied.{IsOpening}
 use Rattle.rz_events.specs.declared.operations.Operation.{Operation}
 use Rattle.rz_script.specs.declared.line.Line.{Line}
 use Rattle.rz_script.specs.declared.line.Line.TheVariants as line
-use Rattle.rz_play.specs.World.{World, Agenda, with_agenda, has_work, actors}
-use Rattle.rz_play.specs.Turns.{IsTurn, answered}
+use Rattle.rz_play.specs.World.{World, Agenda, with_agenda, with_node, has_work, actors}
+use Rattle.rz_play.specs.Turns.{answered}
+use Rattle.rz_play.specs.Free.{IsTurnOver}
 
--- Turns and rounds.
+-- Turns and rounds, over disks that tell their texts or that do not.
 
-abbrev pub IsTurns : Volume → Actor → ℕ → World → World → Type 0
-IsTurns v by zero w next = next ≡ w
-IsTurns v by (suc k) w next = (mid : World) × IsTurn v by w mid × IsTurns v by k mid next
+abbrev pub IsTurnsOver : Volume → Actor → ℕ → (tells : Bool) → World → World → Type 0
+IsTurnsOver v by zero tells w next = next ≡ w
+IsTurnsOver v by (suc k) tells w next = (mid : World) × IsTurnOver v by tells w mid × IsTurnsOver v by k tells mid next
 
 -- an actor with work takes a turn
-abbrev pub IsTurnOr : Bool → Volume → Actor → World → World → Type 0
-IsTurnOr true v by w next = IsTurn v by w next
-IsTurnOr false v by w next = next ≡ w
+abbrev pub IsTurnIf : Bool → Volume → Actor → (tells : Bool) → World → World → Type 0
+IsTurnIf true v by tells w next = IsTurnOver v by tells w next
+IsTurnIf false v by tells w next = next ≡ w
 
 -- and so do these, one after another
+abbrev pub IsRoundOver : Volume → List Actor → (tells : Bool) → World → World → Type 0
+IsRoundOver v [] tells w next = next ≡ w
+IsRoundOver v (by ∷ more) tells w next = (mid : World) × IsTurnIf (has_work (w.agendas by)) v by tells w mid × IsRoundOver v more tells mid next
+
+abbrev pub IsRoundsOver : Volume → ℕ → (tells : Bool) → World → World → Type 0
+IsRoundsOver v zero tells w next = next ≡ w
+IsRoundsOver v (suc k) tells w next = (mid : World) × IsRoundOver v actors tells w mid × IsRoundsOver v k tells mid next
+
+-- Over disks that tell them.
+
+abbrev pub IsTurns : Volume → Actor → ℕ → World → World → Type 0
+IsTurns v by k w next = IsTurnsOver v by k true w next
+
+abbrev pub IsTurnOr : Bool → Volume → Actor → World → World → Type 0
+IsTurnOr busy v by w next = IsTurnIf busy v by true w next
+
 abbrev pub IsRound : Volume → List Actor → World → World → Type 0
-IsRound v [] w next = next ≡ w
-IsRound v (by ∷ more) w next = (mid : World) × IsTurnOr (has_work (w.agendas by)) v by w mid × IsRound v more mid next
+IsRound v actors w next = IsRoundOver v actors true w next
 
 abbrev pub IsRounds : Volume → ℕ → World → World → Type 0
-IsRounds v zero w next = next ≡ w
-IsRounds v (suc k) w next = (mid : World) × IsRound v actors w mid × IsRounds v k mid next
+IsRounds v k w next = IsRoundsOver v k true w next
 
 -- no actor has work
 abbrev pub IsAtRest : World → Type 0
@@ -63,6 +79,23 @@ pub record IsAdminCall (v : Volume) (n : ℕ) (question : NodeAsk) (w next : Wor
   pub told : IsTold given
   pub next_is : next ≡ record (answered w n question given) { log = noted (node_event Admin n question given) w.log }
 
+-- What a start makes of a node whose disk does not tell its text: one that started is up and may hold anything, and any other is
+-- as it was.
+abbrev pub IsStartedAs : NodeAnswer → NodeState → NodeState → Type 0
+IsStartedAs (answer.Start (start.Started took)) state after = after ≡ opened state.losses after.fence after.held
+IsStartedAs given state after = after ≡ state
+
+-- a node is started, and what it finds on its disk is not said
+pub record IsFreeStart (v : Volume) (n : ℕ) (w next : World) : Type 0 where
+  pub given : NodeAnswer
+  pub given_is : IsNodeAnswer (cells_of v n) (w.nodes n) ask.Start given
+  pub answered : given ≢ answer.Start start.NoMemory
+  pub state : NodeState
+  pub started : IsStartedAs given (w.nodes n) state
+  pub next_is : next ≡ record (with_node w n state) { log = noted (node_event Admin n ask.Start given) w.log }
+
+-- Lines.
+
 abbrev pub with_operation : Agenda → Operation → Agenda
 with_operation s op = record s { todo = s.todo ++ op ∷ [] }
 
@@ -70,14 +103,26 @@ with_operation s op = record s { todo = s.todo ++ op ∷ [] }
 abbrev pub with_miss : Agenda → Bool → Agenda
 with_miss s reply = record s { miss = Some reply }
 
--- The whole line.
+-- The whole line, over disks that tell their texts or that do not.
+abbrev pub PlaysLineOver : Volume → Line → (tells : Bool) → World → World → Type 0
+PlaysLineOver v (line.Op by op) tells w next = next ≡ with_agenda w by (with_operation (w.agendas by) op)
+PlaysLineOver v (line.Turn by k) tells w next = IsTurnsOver v by k tells w next
+PlaysLineOver v (line.Rounds k) tells w next = IsRoundsOver v k tells w next
+PlaysLineOver v line.Rest tells w next = (k : ℕ) × IsRoundsOver v k tells w next × IsAtRest next
+PlaysLineOver v (line.Stop n) tells w next = IsAdminCall v n ask.Stop w next
+PlaysLineOver v (line.Start n) true w next = IsAdminCall v n ask.Start w next
+PlaysLineOver v (line.Start n) false w next = IsFreeStart v n w next
+PlaysLineOver v (line.Lose n) tells w next = IsAdminCall v n ask.Lose w next
+PlaysLineOver v (line.Break n k pick) tells w next = next ≡ record w { log = e.Armed n k pick ∷ w.log }
+PlaysLineOver v (line.Miss by reply) tells w next = next ≡ with_agenda w by (with_miss (w.agendas by) reply)
+
+-- over disks that tell them
 abbrev pub PlaysLine : Volume → Line → World → World → Type 0
-PlaysLine v (line.Op by op) w next = next ≡ with_agenda w by (with_operation (w.agendas by) op)
-PlaysLine v (line.Turn by k) w next = IsTurns v by k w next
-PlaysLine v (line.Rounds k) w next = IsRounds v k w next
-PlaysLine v line.Rest w next = (k : ℕ) × IsRounds v k w next × IsAtRest next
-PlaysLine v (line.Stop n) w next = IsAdminCall v n ask.Stop w next
-PlaysLine v (line.Start n) w next = IsAdminCall v n ask.Start w next
-PlaysLine v (line.Lose n) w next = IsAdminCall v n ask.Lose w next
-PlaysLine v (line.Break n k pick) w next = next ≡ record w { log = e.Armed n k pick ∷ w.log }
-PlaysLine v (line.Miss by reply) w next = next ≡ with_agenda w by (with_miss (w.agendas by) reply)
+PlaysLine v l w next = PlaysLineOver v l true w next
+
+-- a line that takes no turn
+abbrev pub TakesNoTurn : Line → Type 0
+TakesNoTurn (line.Turn by k) = ⊥
+TakesNoTurn (line.Rounds k) = ⊥
+TakesNoTurn line.Rest = ⊥
+TakesNoTurn _ = Unit {0}

@@ -1,26 +1,39 @@
 -- Which logs a script may have.
-use Rattle.std.specs.Prelude.{◌≡◌, ◌⊎◌, ◌≤◌, List, [], ◌∷◌}
+use Rattle.std.specs.Prelude.{Bool, true, ◌≡◌, ◌⊎◌, ◌≤◌, List, [], ◌∷◌}
 use Rattle.rz_events.specs.Volume.{Volume}
 use Rattle.rz_events.specs.declared.events.Event.{Event}
 use Rattle.rz_script.specs.declared.line.Line.{Line}
 use Rattle.rz_play.specs.World.{World, new_world}
-use Rattle.rz_play.specs.Lines.{PlaysLine}
-use Rattle.rz_play.specs.Stops.{StopCause, StopsLine, BeginsLine, most_turns}
+use Rattle.rz_play.specs.Lines.{PlaysLineOver}
+use Rattle.rz_play.specs.Stops.{StopCause, StopsLineOver, BeginsLineOver, most_turns}
+
+-- Over disks that tell their texts or that do not.
 
 -- the lines one after another
-abbrev pub PlaysLines : Volume → List Line → World → World → Type 0
-PlaysLines v [] w next = next ≡ w
-PlaysLines v (l ∷ lines) w next = (mid : World) × PlaysLine v l w mid × PlaysLines v lines mid next
+abbrev pub PlaysLinesOver : Volume → List Line → (tells : Bool) → World → World → Type 0
+PlaysLinesOver v [] tells w next = next ≡ w
+PlaysLinesOver v (l ∷ lines) tells w next = (mid : World) × PlaysLineOver v l tells w mid × PlaysLinesOver v lines tells mid next
 
 -- some of them, and the turns of the one after up to one that is not taken
-abbrev pub StopsLines : Volume → StopCause → List Line → World → World → Type 0
-StopsLines v cause [] w next = ⊥
-StopsLines v cause (l ∷ lines) w next = StopsLine v cause l w next ⊎ ((mid : World) × PlaysLine v l w mid × StopsLines v cause lines mid next)
+abbrev pub StopsLinesOver : Volume → StopCause → List Line → (tells : Bool) → World → World → Type 0
+StopsLinesOver v cause [] tells w next = ⊥
+StopsLinesOver v cause (l ∷ lines) tells w next = StopsLineOver v cause l tells w next ⊎ ((mid : World) × PlaysLineOver v l tells w mid × StopsLinesOver v cause lines tells mid next)
 
 -- some of them, and a beginning of the one after
+abbrev pub BeginsLinesOver : Volume → List Line → (tells : Bool) → World → World → Type 0
+BeginsLinesOver v [] tells w next = next ≡ w
+BeginsLinesOver v (l ∷ lines) tells w next = BeginsLineOver v l tells w next ⊎ ((mid : World) × PlaysLineOver v l tells w mid × BeginsLinesOver v lines tells mid next)
+
+-- Over disks that tell them.
+
+abbrev pub PlaysLines : Volume → List Line → World → World → Type 0
+PlaysLines v lines w next = PlaysLinesOver v lines true w next
+
+abbrev pub StopsLines : Volume → StopCause → List Line → World → World → Type 0
+StopsLines v cause lines w next = StopsLinesOver v cause lines true w next
+
 abbrev pub BeginsLines : Volume → List Line → World → World → Type 0
-BeginsLines v [] w next = next ≡ w
-BeginsLines v (l ∷ lines) w next = BeginsLine v l w next ⊎ ((mid : World) × PlaysLine v l w mid × BeginsLines v lines mid next)
+BeginsLines v lines w next = BeginsLinesOver v lines true w next
 
 -- The log of a play of the whole script, the newest event first. It begins at this world, and has what the log of that
 -- world had.

@@ -1,22 +1,29 @@
 -- Where a line of a script may be cut off: between two turns. A play stops before a turn that is not taken, and where memory
 -- ran out it has only begun.
-use Rattle.std.specs.Prelude.{ℕ, true, ◌≡◌, ◌≤◌, ◌<◌, List, ◌∷◌, ◌++◌, Some}
+use Rattle.std.specs.Prelude.{ℕ, Bool, true, false, not, ◌≡◌, ◌≤◌, ◌<◌, List, ◌∷◌, ◌++◌}
 use Rattle.rz_events.specs.Volume.{Volume}
 use Rattle.rz_events.specs.declared.keys.Actor.{Actor}
-use Rattle.rz_events.specs.declared.events.Event.{Event}
-use Rattle.rz_export_model.specs.Export.{Export, export_reply}
-use Rattle.rz_export_model.specs.ExportEvents.{export_event}
-use Rattle.rz_log_laws.specs.Changes.{is_changing}
+use Rattle.rz_events.specs.declared.export.Call.{Call}
+use Rattle.rz_events.specs.declared.export.Call.TheVariants as call
+use Rattle.rz_log_laws.specs.Changes.{only_asks}
 use Rattle.rz_script.specs.declared.line.Line.{Line}
 use Rattle.rz_script.specs.declared.line.Line.TheVariants as line
 use Rattle.rz_operation_model.specs.Ask.{Ask, AskExport, ask_of}
 use Rattle.rz_play.specs.World.{World, actors, has_work, at_work}
-use Rattle.rz_play.specs.Lines.{IsTurns, IsRound, IsRounds}
+use Rattle.rz_play.specs.Lines.{IsTurnsOver, IsRoundOver, IsRoundsOver}
 
--- this is asked of the export, and would change it: a journal of the export stores such a call before it is answered
-abbrev pub IsChange : Export → Actor → Ask → Type 0
-IsChange s by (AskExport c) = (x : Event) × (export_event by c (export_reply s c) ≡ Some x) × (is_changing x ≡ true)
-IsChange s by _ = ⊥
+-- a call that may change the export
+abbrev pub may_change : Call → Bool
+may_change (call.Tree c) = not (only_asks c)
+may_change (call.Begin key text) = true
+may_change (call.Publish key stamp mask length) = true
+may_change (call.Enroll node loss) = true
+may_change _ = false
+
+-- Such a call is asked of the export: a journal of the export stores it before it is answered, whether it is then accepted or not.
+abbrev pub IsChange : Ask → Type 0
+IsChange (AskExport c) = may_change c ≡ true
+IsChange _ = ⊥
 
 -- Why a turn is not taken.
 
@@ -32,33 +39,41 @@ pub data StopCause : Type 0 where
 
 abbrev pub HasCause : Volume → StopCause → World → Actor → Type 0
 HasCause v TurnsSpent w by = w.turns ≡ most_turns
-HasCause v JournalRefused w by = (w.turns < most_turns) × IsChange w.export by (ask_of v.layout (at_work (w.agendas by)).work)
+HasCause v JournalRefused w by = (w.turns < most_turns) × IsChange (ask_of v.layout (at_work (w.agendas by)).work)
 
 -- The turns before it.
 
 -- the round stops before the turn of an actor with work
-pub record StopsRound (v : Volume) (cause : StopCause) (w next : World) : Type 0 where
+pub record StopsRound (v : Volume) (cause : StopCause) (tells : Bool) (w next : World) : Type 0 where
   pub done : List Actor
   pub by : Actor
   pub more : List Actor
   pub order : actors ≡ done ++ by ∷ more
-  pub played : IsRound v done w next
+  pub played : IsRoundOver v done tells w next
   pub waits : has_work (next.agendas by) ≡ true
   pub why : HasCause v cause next by
 
-abbrev pub StopsLine : Volume → StopCause → Line → World → World → Type 0
-StopsLine v cause (line.Turn by k) w next = (j : ℕ) × (j < k) × IsTurns v by j w next × HasCause v cause next by
-StopsLine v cause (line.Rounds k) w next = (j : ℕ) × (j < k) × ((mid : World) × IsRounds v j w mid × StopsRound v cause mid next)
-StopsLine v cause line.Rest w next = (j : ℕ) × (mid : World) × IsRounds v j w mid × StopsRound v cause mid next
-StopsLine v cause _ w next = ⊥
+abbrev pub StopsLineOver : Volume → StopCause → Line → (tells : Bool) → World → World → Type 0
+StopsLineOver v cause (line.Turn by k) tells w next = (j : ℕ) × (j < k) × IsTurnsOver v by j tells w next × HasCause v cause next by
+StopsLineOver v cause (line.Rounds k) tells w next = (j : ℕ) × (j < k) × ((mid : World) × IsRoundsOver v j tells w mid × StopsRound v cause tells mid next)
+StopsLineOver v cause line.Rest tells w next = (j : ℕ) × (mid : World) × IsRoundsOver v j tells w mid × StopsRound v cause tells mid next
+StopsLineOver v cause _ tells w next = ⊥
 
 -- A beginning of a line: some of its turns.
 
-abbrev pub BeginsRound : Volume → World → World → Type 0
-BeginsRound v w next = (done more : List Actor) × (actors ≡ done ++ more) × IsRound v done w next
+abbrev pub BeginsRound : Volume → (tells : Bool) → World → World → Type 0
+BeginsRound v tells w next = (done more : List Actor) × (actors ≡ done ++ more) × IsRoundOver v done tells w next
+
+abbrev pub BeginsLineOver : Volume → Line → (tells : Bool) → World → World → Type 0
+BeginsLineOver v (line.Turn by k) tells w next = (j : ℕ) × (j ≤ k) × IsTurnsOver v by j tells w next
+BeginsLineOver v (line.Rounds k) tells w next = (j : ℕ) × (j < k) × ((mid : World) × IsRoundsOver v j tells w mid × BeginsRound v tells mid next)
+BeginsLineOver v line.Rest tells w next = (j : ℕ) × (mid : World) × IsRoundsOver v j tells w mid × BeginsRound v tells mid next
+BeginsLineOver v _ tells w next = next ≡ w
+
+-- Over disks that tell their texts.
+
+abbrev pub StopsLine : Volume → StopCause → Line → World → World → Type 0
+StopsLine v cause l w next = StopsLineOver v cause l true w next
 
 abbrev pub BeginsLine : Volume → Line → World → World → Type 0
-BeginsLine v (line.Turn by k) w next = (j : ℕ) × (j ≤ k) × IsTurns v by j w next
-BeginsLine v (line.Rounds k) w next = (j : ℕ) × (j < k) × ((mid : World) × IsRounds v j w mid × BeginsRound v mid next)
-BeginsLine v line.Rest w next = (j : ℕ) × (mid : World) × IsRounds v j w mid × BeginsRound v mid next
-BeginsLine v _ w next = next ≡ w
+BeginsLine v l w next = BeginsLineOver v l true w next

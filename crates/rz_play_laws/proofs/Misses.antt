@@ -28,13 +28,13 @@ use Rattle.rz_script.specs.declared.line.Line.TheVariants as line
 use Rattle.rz_node_model.specs.States.{NodeState}
 use Rattle.rz_export_model.specs.Export.{Export as ExportState}
 use Rattle.rz_play.specs.World.{World, Agenda, world_after, at_work, take_up, has_work, actors}
-use Rattle.rz_play.specs.Turns.{IsTurn, IsAskTurn, IsNodeTurn, Through, ReplyLost, RequestLost, text_said, lost_after}
-use Rattle.rz_play.specs.Lines.{IsTurns, IsTurnOr, IsRound, IsRounds, IsAdminCall, noted, PlaysLine}
-use Rattle.rz_play.specs.Stops.{StopCause, TurnsSpent, BeginsLine}
-use Rattle.rz_play.specs.Free.{IsFreeStart, PlaysLineOver, PlaysLinesOver, StopsLinesOver, BeginsLinesOver}
+use Rattle.rz_play.specs.Turns.{IsAskTurn, IsNodeTurn, Through, ReplyLost, RequestLost, text_said, lost_after}
+use Rattle.rz_play.specs.Free.{IsFreeAskTurn, IsTurnOver}
+use Rattle.rz_play.specs.Lines.{IsTurnsOver, IsTurnIf, IsRoundOver, IsRoundsOver, IsAdminCall, IsFreeStart, noted, PlaysLine, PlaysLineOver}
+use Rattle.rz_play.specs.Stops.{TurnsSpent, BeginsLineOver}
 use Rattle.rz_play_laws.specs.Runs.{IsReached}
-use Rattle.rz_play_laws.proofs.Plays.{stop-begins}
-use Rattle.rz_play.specs.Played.{BeginsLines}
+use Rattle.rz_play_laws.proofs.Plays.{plays-begin, stops-begin}
+use Rattle.rz_play.specs.Played.{BeginsLines, BeginsLinesOver}
 use Rattle.rz_play.specs.Faults.{is_missed, missed, is_miss, misses}
 use Rattle.rz_play_laws.proofs.Frames.{same_actor-true, same_actor-refl}
 use Rattle.rz_play_laws.proofs.Events.{export-event, node-event}
@@ -230,28 +230,43 @@ module _ (k : ℕ) (v : Volume) (w : World) (by : Actor) (s : Agenda) (same : s.
       (ap (λ (z : World). z.lost) next_is) (said-quiet by s.number (text_said (facts w.log) said) said)
   ask-owes Rest next next_is = subst (Owes k) (sym next_is) o
 
+  free-owes : (a : Ask) (next : World) → IsFreeAskTurn v w by s a next → Owes k next
+  free-owes (AskExport c) next turn = ask-owes (AskExport c) next turn
+  free-owes (AskNode n question) next (inl turn) = node-owes n question next turn
+  free-owes (AskNode n question) next (inr t) =
+      quiet next _ t.1 (ap (λ (z : World). z.agendas) t.6) refl (ap (λ (z : World). z.log) t.6) (ap (λ (z : World). z.lost) t.6) (node-quiet by n question t.0 t.1 t.4.event)
+  free-owes (AskLock path exclusive from count) next turn = ask-owes (AskLock path exclusive from count) next turn
+  free-owes (Say said) next (text, next_is) =
+      quiet next _ (said_event by s.number text said) (ap (λ (z : World). z.agendas) next_is) refl (ap (λ (z : World). z.log) next_is)
+      (ap (λ (z : World). z.lost) next_is) (said-quiet by s.number text said)
+  free-owes Rest next turn = ask-owes Rest next turn
+
 module _ (v : Volume) where
-  owes-turn : (k : ℕ) (by : Actor) (w next : World) → IsTurn v by w next → Owes k w → Owes k next
-  owes-turn k by w next turn o =
+  owes-turn : (k : ℕ) (by : Actor) (tells : Bool) (w next : World) → IsTurnOver v by tells w next → Owes k w → Owes k next
+  owes-turn k by true w next turn o =
       let s = at_work (w.agendas by) in
       ask-owes k v (record w { turns = w.turns + 1 }) by s (kept-miss (w.agendas by) (w.agendas by).work (w.agendas by).todo)
       (record { waiting = o.waiting; all = o.all; few = o.few }) (ask_of v.layout s.work) next turn
+  owes-turn k by false w next turn o =
+      let s = at_work (w.agendas by) in
+      free-owes k v (record w { turns = w.turns + 1 }) by s (kept-miss (w.agendas by) (w.agendas by).work (w.agendas by).todo)
+      (record { waiting = o.waiting; all = o.all; few = o.few }) (ask_of v.layout s.work) next turn
 
-  owes-turns : (k : ℕ) (by : Actor) (j : ℕ) (w next : World) → IsTurns v by j w next → Owes k w → Owes k next
-  owes-turns k by zero w next is o = subst (Owes k) (sym is) o
-  owes-turns k by (suc j) w next (mid, first, more) o = owes-turns k by j mid next more (owes-turn k by w mid first o)
+  owes-turns : (k : ℕ) (by : Actor) (j : ℕ) (tells : Bool) (w next : World) → IsTurnsOver v by j tells w next → Owes k w → Owes k next
+  owes-turns k by zero tells w next is o = subst (Owes k) (sym is) o
+  owes-turns k by (suc j) tells w next (mid, first, more) o = owes-turns k by j tells mid next more (owes-turn k by tells w mid first o)
 
-  owes-turn-or : (k : ℕ) (b : Bool) (by : Actor) (w next : World) → IsTurnOr b v by w next → Owes k w → Owes k next
-  owes-turn-or k true by w next is o = owes-turn k by w next is o
-  owes-turn-or k false by w next is o = subst (Owes k) (sym is) o
+  owes-turn-if : (k : ℕ) (b : Bool) (by : Actor) (tells : Bool) (w next : World) → IsTurnIf b v by tells w next → Owes k w → Owes k next
+  owes-turn-if k true by tells w next is o = owes-turn k by tells w next is o
+  owes-turn-if k false by tells w next is o = subst (Owes k) (sym is) o
 
-  owes-round : (k : ℕ) (agendas : List Actor) (w next : World) → IsRound v agendas w next → Owes k w → Owes k next
-  owes-round k [] w next is o = subst (Owes k) (sym is) o
-  owes-round k (a ∷ agendas) w next (mid, first, more) o = owes-round k agendas mid next more (owes-turn-or k (has_work (w.agendas a)) a w mid first o)
+  owes-round : (k : ℕ) (agendas : List Actor) (tells : Bool) (w next : World) → IsRoundOver v agendas tells w next → Owes k w → Owes k next
+  owes-round k [] tells w next is o = subst (Owes k) (sym is) o
+  owes-round k (a ∷ agendas) tells w next (mid, first, more) o = owes-round k agendas tells mid next more (owes-turn-if k (has_work (w.agendas a)) a tells w mid first o)
 
-  owes-rounds : (k j : ℕ) (w next : World) → IsRounds v j w next → Owes k w → Owes k next
-  owes-rounds k zero w next is o = subst (Owes k) (sym is) o
-  owes-rounds k (suc j) w next (mid, first, more) o = owes-rounds k j mid next more (owes-round k actors w mid first o)
+  owes-rounds : (k j : ℕ) (tells : Bool) (w next : World) → IsRoundsOver v j tells w next → Owes k w → Owes k next
+  owes-rounds k zero tells w next is o = subst (Owes k) (sym is) o
+  owes-rounds k (suc j) tells w next (mid, first, more) o = owes-rounds k j tells mid next more (owes-round k actors tells w mid first o)
 
   -- Lines.
 
@@ -262,6 +277,12 @@ module _ (v : Volume) where
   owes-admin : (k n : ℕ) (question : NodeAsk) (w next : World) → IsAdminCall v n question w next → Owes k w → Owes k next
   owes-admin k n question w next is o =
       let c = ap (λ (z : World). missed z.log) is.next_is ∙ noted-quiet (node_event Admin n question is.given) w.log (λ x at. node-quiet Admin n question is.given x at) in
+      let l : next.lost ≡ w.lost = ap (λ (z : World). z.lost) is.next_is in
+      owes-still k w next (λ a reply at. ap (λ (z : World). (z.agendas a).miss) (sym is.next_is) ∙ at) (omega (arith, c, l)) o
+
+  owes-start : (k n : ℕ) (w next : World) → IsFreeStart v n w next → Owes k w → Owes k next
+  owes-start k n w next is o =
+      let c = ap (λ (z : World). missed z.log) is.next_is ∙ noted-quiet (node_event Admin n ask.Start is.given) w.log (λ x at. node-quiet Admin n ask.Start is.given x at) in
       let l : next.lost ≡ w.lost = ap (λ (z : World). z.lost) is.next_is in
       owes-still k w next (λ a reply at. ap (λ (z : World). (z.agendas a).miss) (sym is.next_is) ∙ at) (omega (arith, c, l)) o
 
@@ -283,33 +304,34 @@ module _ (v : Volume) where
   abbrev with_line : ℕ → Line → ℕ
   with_line k l = cond (is_miss l) (k + 1) k
 
-  owes-line : (k : ℕ) (l : Line) (w next : World) → PlaysLine v l w next → Owes k w → Owes (with_line k l) next
-  owes-line k (line.Op by op) w next is o =
+  owes-line : (k : ℕ) (l : Line) (tells : Bool) (w next : World) → PlaysLineOver v l tells w next → Owes k w → Owes (with_line k l) next
+  owes-line k (line.Op by op) tells w next is o =
       let c : missed next.log ≡ missed w.log = ap (λ (z : World). missed z.log) is in
       let l : next.lost ≡ w.lost = ap (λ (z : World). z.lost) is in
       owes-still k w next (agenda-still w next by (record (w.agendas by) { todo = (w.agendas by).todo ++ op ∷ [] }) (ap (λ (z : World). z.agendas) is) refl) (omega (arith, c, l)) o
-  owes-line k (line.Turn by j) w next is o = owes-turns k by j w next is o
-  owes-line k (line.Rounds j) w next is o = owes-rounds k j w next is o
-  owes-line k line.Rest w next (j, rounds, rest) o = owes-rounds k j w next rounds o
-  owes-line k (line.Stop n) w next is o = owes-admin k n ask.Stop w next is o
-  owes-line k (line.Start n) w next is o = owes-admin k n ask.Start w next is o
-  owes-line k (line.Lose n) w next is o = owes-admin k n ask.Lose w next is o
-  owes-line k (line.Break n j pick) w next is o =
+  owes-line k (line.Turn by j) tells w next is o = owes-turns k by j tells w next is o
+  owes-line k (line.Rounds j) tells w next is o = owes-rounds k j tells w next is o
+  owes-line k line.Rest tells w next (j, rounds, rest) o = owes-rounds k j tells w next rounds o
+  owes-line k (line.Stop n) tells w next is o = owes-admin k n ask.Stop w next is o
+  owes-line k (line.Start n) true w next is o = owes-admin k n ask.Start w next is o
+  owes-line k (line.Start n) false w next is o = owes-start k n w next is o
+  owes-line k (line.Lose n) tells w next is o = owes-admin k n ask.Lose w next is o
+  owes-line k (line.Break n j pick) tells w next is o =
       let c = ap (λ (z : World). missed z.log) is ∙ quiet-count (e.Armed n j pick) w.log refl in
       let l : next.lost ≡ w.lost = ap (λ (z : World). z.lost) is in
       owes-still k w next (λ a reply at. ap (λ (z : World). (z.agendas a).miss) (sym is) ∙ at) (omega (arith, c, l)) o
-  owes-line k (line.Miss by reply) w next is o = owes-miss k by reply w next is o
+  owes-line k (line.Miss by reply) tells w next is o = owes-miss k by reply w next is o
 
-  owes-begun : (k : ℕ) (l : Line) (w next : World) → BeginsLine v l w next → Owes k w → Owes k next
-  owes-begun k (line.Turn by n) w next (j, low, turns) o = owes-turns k by j w next turns o
-  owes-begun k (line.Rounds n) w next (j, low, (mid, rounds, (done, more, is, round))) o = owes-round k done mid next round (owes-rounds k j w mid rounds o)
-  owes-begun k line.Rest w next (j, mid, rounds, (done, more, is, round)) o = owes-round k done mid next round (owes-rounds k j w mid rounds o)
-  owes-begun k (line.Op by op) w next is o = subst (Owes k) (sym is) o
-  owes-begun k (line.Stop n) w next is o = subst (Owes k) (sym is) o
-  owes-begun k (line.Start n) w next is o = subst (Owes k) (sym is) o
-  owes-begun k (line.Lose n) w next is o = subst (Owes k) (sym is) o
-  owes-begun k (line.Break n j pick) w next is o = subst (Owes k) (sym is) o
-  owes-begun k (line.Miss by reply) w next is o = subst (Owes k) (sym is) o
+  owes-begun : (k : ℕ) (l : Line) (tells : Bool) (w next : World) → BeginsLineOver v l tells w next → Owes k w → Owes k next
+  owes-begun k (line.Turn by n) tells w next (j, low, turns) o = owes-turns k by j tells w next turns o
+  owes-begun k (line.Rounds n) tells w next (j, low, (mid, rounds, (done, more, is, round))) o = owes-round k done tells mid next round (owes-rounds k j tells w mid rounds o)
+  owes-begun k line.Rest tells w next (j, mid, rounds, (done, more, is, round)) o = owes-round k done tells mid next round (owes-rounds k j tells w mid rounds o)
+  owes-begun k (line.Op by op) tells w next is o = subst (Owes k) (sym is) o
+  owes-begun k (line.Stop n) tells w next is o = subst (Owes k) (sym is) o
+  owes-begun k (line.Start n) tells w next is o = subst (Owes k) (sym is) o
+  owes-begun k (line.Lose n) tells w next is o = subst (Owes k) (sym is) o
+  owes-begun k (line.Break n j pick) tells w next is o = subst (Owes k) (sym is) o
+  owes-begun k (line.Miss by reply) tells w next is o = subst (Owes k) (sym is) o
 
   owes-more : (k j : ℕ) (w : World) → k ≤ j → Owes k w → Owes j w
   owes-more k j w low o = record { waiting = o.waiting; all = o.all; few = (let f = o.few in omega (arith, f, low)) }
@@ -330,64 +352,26 @@ module _ (v : Volume) where
           let z : ◌≡◌ {A = ℕ} (cond (is_miss l) 1 0) 0 = ap (λ b. cond {A = ℕ} b 1 0) is in
           omega (arith, c, z)
 
-  pub owes-lines : (k : ℕ) (lines : List Line) (w next : World) → BeginsLines v lines w next → Owes k w → Owes (k + misses lines) next
-  owes-lines k [] w next is o = owes-more k (k + misses []) next (omega arith) (subst (Owes k) (sym is) o)
-  owes-lines k (l ∷ lines) w next (inl begun) o = owes-more k (k + misses (l ∷ lines)) next (omega arith) (owes-begun k l w next begun o)
-  owes-lines k (l ∷ lines) w next (inr (mid, first, more)) o =
-      subst (λ j. Owes j next) (line-by-line k l lines) (owes-lines (with_line k l) lines mid next more (owes-line k l w mid first o))
+  owes-lines : (k : ℕ) (lines : List Line) (tells : Bool) (w next : World) → BeginsLinesOver v lines tells w next → Owes k w → Owes (k + misses lines) next
+  owes-lines k [] tells w next is o = owes-more k (k + misses []) next (omega arith) (subst (Owes k) (sym is) o)
+  owes-lines k (l ∷ lines) tells w next (inl begun) o = owes-more k (k + misses (l ∷ lines)) next (omega arith) (owes-begun k l tells w next begun o)
+  owes-lines k (l ∷ lines) tells w next (inr (mid, first, more)) o =
+      subst (λ j. Owes j next) (line-by-line k l lines) (owes-lines (with_line k l) lines tells mid next more (owes-line k l tells w mid first o))
+
+  begun : (lines : List Line) (tells : Bool) (w next : World) → IsReached v lines tells w next → BeginsLinesOver v lines tells w next
+  begun lines tells w next (inl played) = plays-begin v lines tells w next played
+  begun lines tells w next (inr (inl stopped)) = stops-begin v TurnsSpent lines tells w next stopped
+  begun lines tells w next (inr (inr is)) = is
 
 -- no actor waits at first, and the link lost nothing
-pub losses-counted : (v : Volume) (lines : List Line) (nodes : ℕ → NodeState) (s : ExportState) (old : List Event) (last : World)
-    → BeginsLines v lines (world_after nodes s old) last → missed last.log ≤ missed old + misses lines + last.lost
-losses-counted v lines nodes s old last is =
-    let o : Owes (missed old) (world_after nodes s old) = record { waiting = []; all = λ a reply at. cc; few = omega arith } in
-    let now = owes-lines v (missed old) lines (world_after nodes s old) last is o in
-    let f = now.few in omega (arith, f)
-
--- Over disks that need not tell what a start finds on them.
-
-module _ (v : Volume) where
-  owes-start : (k n : ℕ) (w next : World) → IsFreeStart v n w next → Owes k w → Owes k next
-  owes-start k n w next is o =
-      let c = ap (λ (z : World). missed z.log) is.next_is ∙ noted-quiet v (node_event Admin n ask.Start is.given) w.log (λ x at. node-quiet Admin n ask.Start is.given x at) in
-      let l : next.lost ≡ w.lost = ap (λ (z : World). z.lost) is.next_is in
-      owes-still k w next (λ a reply at. ap (λ (z : World). (z.agendas a).miss) (sym is.next_is) ∙ at) (omega (arith, c, l)) o
-
-  owes-line-over : (k : ℕ) (l : Line) (tells : Bool) (w next : World) → PlaysLineOver v l tells w next → Owes k w → Owes (with_line v k l) next
-  owes-line-over k (line.Start n) true w next is o = owes-line v k (line.Start n) w next is o
-  owes-line-over k (line.Start n) false w next is o = owes-start k n w next is o
-  owes-line-over k (line.Op by op) tells w next is o = owes-line v k (line.Op by op) w next is o
-  owes-line-over k (line.Turn by j) tells w next is o = owes-line v k (line.Turn by j) w next is o
-  owes-line-over k (line.Rounds j) tells w next is o = owes-line v k (line.Rounds j) w next is o
-  owes-line-over k line.Rest tells w next is o = owes-line v k line.Rest w next is o
-  owes-line-over k (line.Stop n) tells w next is o = owes-line v k (line.Stop n) w next is o
-  owes-line-over k (line.Lose n) tells w next is o = owes-line v k (line.Lose n) w next is o
-  owes-line-over k (line.Break n j pick) tells w next is o = owes-line v k (line.Break n j pick) w next is o
-  owes-line-over k (line.Miss by reply) tells w next is o = owes-line v k (line.Miss by reply) w next is o
-
-  owes-lines-over : (k : ℕ) (lines : List Line) (tells : Bool) (w next : World) → BeginsLinesOver v lines tells w next → Owes k w → Owes (k + misses lines) next
-  owes-lines-over k [] tells w next is o = owes-more v k (k + misses []) next (omega arith) (subst (Owes k) (sym is) o)
-  owes-lines-over k (l ∷ lines) tells w next (inl begun) o = owes-more v k (k + misses (l ∷ lines)) next (omega arith) (owes-begun v k l w next begun o)
-  owes-lines-over k (l ∷ lines) tells w next (inr (mid, first, more)) o =
-      subst (λ j. Owes j next) (line-by-line v k l lines) (owes-lines-over (with_line v k l) lines tells mid next more (owes-line-over k l tells w mid first o))
-
-  plays-begin-over : (lines : List Line) (tells : Bool) (w next : World) → PlaysLinesOver v lines tells w next → BeginsLinesOver v lines tells w next
-  plays-begin-over [] tells w next is = is
-  plays-begin-over (l ∷ lines) tells w next (mid, first, more) = inr (mid, first, plays-begin-over lines tells mid next more)
-
-  stops-begin-over : (cause : StopCause) (lines : List Line) (tells : Bool) (w next : World) → StopsLinesOver v cause lines tells w next → BeginsLinesOver v lines tells w next
-  stops-begin-over cause [] tells w next is = absurd is
-  stops-begin-over cause (l ∷ lines) tells w next (inl stops) = inl (stop-begins v cause l w next stops)
-  stops-begin-over cause (l ∷ lines) tells w next (inr (mid, first, more)) = inr (mid, first, stops-begin-over cause lines tells mid next more)
-
-  begun-over : (lines : List Line) (tells : Bool) (w next : World) → IsReached v lines tells w next → BeginsLinesOver v lines tells w next
-  begun-over lines tells w next (inl played) = plays-begin-over lines tells w next played
-  begun-over lines tells w next (inr (inl stopped)) = stops-begin-over TurnsSpent lines tells w next stopped
-  begun-over lines tells w next (inr (inr begun)) = begun
-
 pub losses-over : (v : Volume) (lines : List Line) (tells : Bool) (nodes : ℕ → NodeState) (s : ExportState) (old : List Event) (last : World)
     → IsReached v lines tells (world_after nodes s old) last → missed last.log ≤ missed old + misses lines + last.lost
 losses-over v lines tells nodes s old last is =
     let o : Owes (missed old) (world_after nodes s old) = record { waiting = []; all = λ a reply at. cc; few = omega arith } in
-    let now = owes-lines-over v (missed old) lines tells (world_after nodes s old) last (begun-over v lines tells (world_after nodes s old) last is) o in
+    let now = owes-lines v (missed old) lines tells (world_after nodes s old) last (begun v lines tells (world_after nodes s old) last is) o in
     let f = now.few in omega (arith, f)
+
+-- over disks that tell their texts
+pub losses-counted : (v : Volume) (lines : List Line) (nodes : ℕ → NodeState) (s : ExportState) (old : List Event) (last : World)
+    → BeginsLines v lines (world_after nodes s old) last → missed last.log ≤ missed old + misses lines + last.lost
+losses-counted v lines nodes s old last is = losses-over v lines true nodes s old last (inr (inr is))

@@ -33,7 +33,7 @@ use Rattle.rz_events.specs.declared.operations.Operation.{Operation}
 use Rattle.rz_script.specs.declared.line.Line.{Line}
 use Rattle.rz_script.specs.declared.line.Line.TheVariants as line
 use Rattle.rz_play.specs.World.{World, Agenda, world_after, with_agenda, with_node, at_work, take_up, has_work, actors}
-use Rattle.rz_play.specs.Stops.{StopCause, TurnsSpent, JournalRefused, HasCause, StopsLine, BeginsLine, most_turns}
+use Rattle.rz_play.specs.Stops.{StopCause, TurnsSpent, JournalRefused, HasCause, StopsLine, StopsLineOver, BeginsLine, BeginsLineOver, most_turns}
 use Rattle.rz_node_model.specs.States.{fresh}
 use Rattle.rz_export_model.specs.Export.{Export as ExportState, new_export}
 use Rattle.rz_script.specs.Lines.{IsOperation, IsLine, AreLines}
@@ -53,7 +53,7 @@ use Rattle.rz_safety.specs.Sound.{IsSound, IsAnswering}
 use Rattle.rz_safety.specs.Rebuilt.{AreRebuilt}
 use Rattle.rz_safety.specs.Writes.{AreWritesEnded}
 use Rattle.rz_play_laws.specs.Runs.{IsScript, IsRunAfter}
-use Rattle.rz_play.specs.Played.{IsBegun, PlaysLines, StopsLines, BeginsLines, IsPlayedFrom, IsStoppedFrom, IsBegunFrom}
+use Rattle.rz_play.specs.Played.{IsBegun, PlaysLines, PlaysLinesOver, StopsLines, StopsLinesOver, BeginsLines, BeginsLinesOver, IsPlayedFrom, IsStoppedFrom, IsBegunFrom}
 use Rattle.rz_play_laws.specs.Own.{IsOwn, IsUnderWay}
 use Rattle.rz_play_laws.specs.Fine.{IsSeated, IsTelling, MayBegin, IsFine, IsFineIfShort}
 use Rattle.rz_play_laws.proofs.OwnTurns.{proper, own-turn}
@@ -430,20 +430,20 @@ module _ (v : Volume) (tells : IsTelling v) (old : List Event) where
 
 -- Where a play stopped it has begun, and so it has where it came to its end.
 
-pub stop-begins : (v : Volume) (cause : StopCause) (l : Line) (w next : World) → StopsLine v cause l w next → BeginsLine v l w next
-stop-begins v cause (line.Turn by k) w next (j, low, turns, why) = (j, omega (arith, low), turns)
-stop-begins v cause (line.Rounds k) w next (j, low, (mid, rounds, s)) = (j, low, (mid, rounds, (s.done, s.by ∷ s.more, s.order, s.played)))
-stop-begins v cause line.Rest w next (j, mid, rounds, s) = (j, mid, rounds, (s.done, s.by ∷ s.more, s.order, s.played))
-stop-begins v cause (_) w next is = absurd is
+stop-begins : (v : Volume) (cause : StopCause) (l : Line) (tells : Bool) (w next : World) → StopsLineOver v cause l tells w next → BeginsLineOver v l tells w next
+stop-begins v cause (line.Turn by k) tells w next (j, low, turns, why) = (j, omega (arith, low), turns)
+stop-begins v cause (line.Rounds k) tells w next (j, low, (mid, rounds, s)) = (j, low, (mid, rounds, (s.done, s.by ∷ s.more, s.order, s.played)))
+stop-begins v cause line.Rest tells w next (j, mid, rounds, s) = (j, mid, rounds, (s.done, s.by ∷ s.more, s.order, s.played))
+stop-begins v cause (_) tells w next is = absurd is
 
-pub stops-begin : (v : Volume) (cause : StopCause) (lines : List Line) (w next : World) → StopsLines v cause lines w next → BeginsLines v lines w next
-stops-begin v cause [] w next is = absurd is
-stops-begin v cause (l ∷ lines) w next (inl stops) = inl (stop-begins v cause l w next stops)
-stops-begin v cause (l ∷ lines) w next (inr (mid, first, more)) = inr (mid, first, stops-begin v cause lines mid next more)
+pub stops-begin : (v : Volume) (cause : StopCause) (lines : List Line) (tells : Bool) (w next : World) → StopsLinesOver v cause lines tells w next → BeginsLinesOver v lines tells w next
+stops-begin v cause [] tells w next is = absurd is
+stops-begin v cause (l ∷ lines) tells w next (inl stops) = inl (stop-begins v cause l tells w next stops)
+stops-begin v cause (l ∷ lines) tells w next (inr (mid, first, more)) = inr (mid, first, stops-begin v cause lines tells mid next more)
 
-pub plays-begin : (v : Volume) (lines : List Line) (w next : World) → PlaysLines v lines w next → BeginsLines v lines w next
-plays-begin v [] w next is = is
-plays-begin v (l ∷ lines) w next (mid, first, more) = inr (mid, first, plays-begin v lines mid next more)
+pub plays-begin : (v : Volume) (lines : List Line) (tells : Bool) (w next : World) → PlaysLinesOver v lines tells w next → BeginsLinesOver v lines tells w next
+plays-begin v [] tells w next is = is
+plays-begin v (l ∷ lines) tells w next (mid, first, more) = inr (mid, first, plays-begin v lines tells mid next more)
 
 -- a play stops with no more turns than it may have
 cause-few : (v : Volume) (cause : StopCause) (w : World) (by : Actor) → HasCause v cause w by → w.turns ≤ most_turns
@@ -465,7 +465,7 @@ pub stopped-begun : (v : Volume) (cause : StopCause) (first : World) (lines : Li
 stopped-begun v cause first lines h p = (
   record {
     last = p.last;
-    played = stops-begin v cause lines first p.last p.played;
+    played = stops-begin v cause lines true first p.last p.played;
     few = stops-few v cause lines first p.last p.played;
     log_is = p.log_is;
   },
@@ -473,7 +473,7 @@ stopped-begun v cause first lines h p = (
 )
 
 pub played-begun : (v : Volume) (first : World) (lines : List Line) (h : List Event) → (p : IsPlayedFrom v first lines h) → (begun : IsBegunFrom v first lines h) × (begun.last ≡ p.last)
-played-begun v first lines h p = (record { last = p.last; played = plays-begin v lines first p.last p.played; few = p.few; log_is = p.log_is }, refl)
+played-begun v first lines h p = (record { last = p.last; played = plays-begin v lines true first p.last p.played; few = p.few; log_is = p.log_is }, refl)
 
 -- The beginning.
 

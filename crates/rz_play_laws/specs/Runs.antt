@@ -7,7 +7,7 @@ use Rattle.rz_script.specs.Lines.{AreLines}
 use Rattle.rz_core.specs.Legal.{IsLegalAfter}
 use Rattle.rz_play.specs.World.{World}
 use Rattle.rz_play.specs.Stops.{TurnsSpent}
-use Rattle.rz_play.specs.Free.{PlaysLinesOver, StopsLinesOver, BeginsLinesOver}
+use Rattle.rz_play.specs.Played.{PlaysLinesOver, StopsLinesOver, BeginsLinesOver}
 use Rattle.rz_safety.specs.Sound.{IsSound, IsAnswering}
 use Rattle.rz_safety.specs.Rebuilt.{AreRebuilt}
 use Rattle.rz_safety.specs.Writes.{AreWritesEnded}

@@ -6,8 +6,8 @@ use Rattle.rz_events.specs.Volume.{Volume}
 use Rattle.rz_events.specs.declared.keys.Actor.{Actor}
 use Rattle.rz_script.specs.Lines.{IsActor}
 use Rattle.rz_play.specs.World.{World, has_work}
-use Rattle.rz_play.specs.Turns.{IsTurn}
-use Rattle.rz_play.specs.Lines.{IsRound, IsTurnOr}
+use Rattle.rz_play.specs.Free.{IsTurnOver}
+use Rattle.rz_play.specs.Lines.{IsRoundOver, IsTurnIf}
 use Rattle.rz_play.specs.Stops.{most_turns}
 use Rattle.rz_player.specs.declared.turns.CutCause.{CutCause}
 use Rattle.rz_player.specs.declared.turns.CutCause.TheVariants as cut
@@ -32,27 +32,27 @@ no-fewer : (xs : List Actor) (w : World) (any : Bool) (mid : World) → HadWork 
 no-fewer xs w true mid h = omega arith
 no-fewer xs w false mid h = let e : mid.turns ≡ w.turns = ap (λ (m : World). m.turns) h.0 in omega arith
 
-turn-or : (b : Bool) (v : Volume) (by : Actor) (mid next : World) → b ≡ true → IsTurn v by mid next → IsTurnOr b v by mid next
-turn-or true v by mid next is turn = turn
-turn-or false v by mid next is turn = cc
+turn-or : (b : Bool) (v : Volume) (tells : Bool) (by : Actor) (mid next : World) → b ≡ true → IsTurnOver v by tells mid next → IsTurnIf b v by tells mid next
+turn-or true v tells by mid next is turn = turn
+turn-or false v tells by mid next is turn = cc
 
-idle-or : (b : Bool) (v : Volume) (by : Actor) (mid : World) → b ≡ false → IsTurnOr b v by mid mid
-idle-or true v by mid is = cc
-idle-or false v by mid is = refl
+idle-or : (b : Bool) (v : Volume) (tells : Bool) (by : Actor) (mid : World) → b ≡ false → IsTurnIf b v by tells mid mid
+idle-or true v tells by mid is = cc
+idle-or false v tells by mid is = refl
 
 -- the actors before had their turns
-pub record IsUpTo (v : Volume) (done : List Actor) (w : World) (any : Bool) (mid : World) : Type 0 where
-  pub played : IsRound v done w mid
+pub record IsUpTo (v : Volume) (done : List Actor) (tells : Bool) (w : World) (any : Bool) (mid : World) : Type 0 where
+  pub played : IsRoundOver v done tells w mid
   pub had : HadWork done w any mid
   pub few : mid.turns ≤ most_turns
 
-taken : (v : Volume) (done : List Actor) (by : Actor) (w : World) (any : Bool) (mid next : World) → IsUpTo v done w any mid → has_work (mid.agendas by) ≡ true
-    → IsTurnTaken v by mid (Ok tt) next → IsUpTo v (done ++ by ∷ []) w true next
-taken v done by w any mid next h busy turn =
-    let one = turn-counts v by mid next turn.0 in
+taken : (v : Volume) (tells : Bool) (done : List Actor) (by : Actor) (w : World) (any : Bool) (mid next : World) → IsUpTo v done tells w any mid → has_work (mid.agendas by) ≡ true
+    → IsTurnTaken v by tells mid (Ok tt) next → IsUpTo v (done ++ by ∷ []) tells w true next
+taken v tells done by w any mid next h busy turn =
+    let one = turn-counts v by tells mid next turn.0 in
     let some = no-fewer done w any mid h.had in
     record {
-      played = round-more v done by w mid next h.played (turn-or (has_work (mid.agendas by)) v by mid next busy turn.0);
+      played = round-more v tells done by w mid next h.played (turn-or (has_work (mid.agendas by)) v tells by mid next busy turn.0);
       had = omega (arith, one, some);
       few = omega (arith, one, turn.1);
     }
@@ -61,33 +61,33 @@ had-skipped : (done : List Actor) (by : Actor) (w : World) (any : Bool) (mid : W
 had-skipped done by w true mid had rests = had
 had-skipped done by w false mid had rests = (had.0, all-more w done by had.1 (subst (λ (m : World). has_work (m.agendas by) ≡ false) had.0 rests))
 
-skipped : (v : Volume) (done : List Actor) (by : Actor) (w : World) (any : Bool) (mid : World) → IsUpTo v done w any mid → has_work (mid.agendas by) ≡ false → IsUpTo v (done ++ by ∷ []) w any mid
-skipped v done by w any mid h rests = record {
-  played = round-more v done by w mid mid h.played (idle-or (has_work (mid.agendas by)) v by mid rests);
+skipped : (v : Volume) (tells : Bool) (done : List Actor) (by : Actor) (w : World) (any : Bool) (mid : World) → IsUpTo v done tells w any mid → has_work (mid.agendas by) ≡ false → IsUpTo v (done ++ by ∷ []) tells w any mid
+skipped v tells done by w any mid h rests = record {
+  played = round-more v tells done by w mid mid h.played (idle-or (has_work (mid.agendas by)) v tells by mid rests);
   had = had-skipped done by w any mid h.had rests;
   few = h.few;
 }
 
 -- by their places in the list
 
-pub taken-at : (v : Volume) (xs : List Actor) (i : ℕ) (d : Actor) (w : World) (any : Bool) (mid next : World) → i < length xs → IsUpTo v (take i xs) w any mid → has_work (mid.agendas (get_or xs i d)) ≡ true
-    → IsTurnTaken v (get_or xs i d) mid (Ok tt) next → IsUpTo v (take (i + 1) xs) w true next
-taken-at v xs i d w any mid next lt h busy turn = subst (λ (ys : List Actor). IsUpTo v ys w true next) (sym (take_more xs i d lt)) (taken v (take i xs) (get_or xs i d) w any mid next h busy turn)
+pub taken-at : (v : Volume) (tells : Bool) (xs : List Actor) (i : ℕ) (d : Actor) (w : World) (any : Bool) (mid next : World) → i < length xs → IsUpTo v (take i xs) tells w any mid → has_work (mid.agendas (get_or xs i d)) ≡ true
+    → IsTurnTaken v (get_or xs i d) tells mid (Ok tt) next → IsUpTo v (take (i + 1) xs) tells w true next
+taken-at v tells xs i d w any mid next lt h busy turn = subst (λ (ys : List Actor). IsUpTo v ys tells w true next) (sym (take_more xs i d lt)) (taken v tells (take i xs) (get_or xs i d) w any mid next h busy turn)
 
-pub skipped-at : (v : Volume) (xs : List Actor) (i : ℕ) (d : Actor) (w : World) (any : Bool) (mid : World) → i < length xs → IsUpTo v (take i xs) w any mid → has_work (mid.agendas (get_or xs i d)) ≡ false
-    → IsUpTo v (take (i + 1) xs) w any mid
-skipped-at v xs i d w any mid lt h rests = subst (λ (ys : List Actor). IsUpTo v ys w any mid) (sym (take_more xs i d lt)) (skipped v (take i xs) (get_or xs i d) w any mid h rests)
+pub skipped-at : (v : Volume) (tells : Bool) (xs : List Actor) (i : ℕ) (d : Actor) (w : World) (any : Bool) (mid : World) → i < length xs → IsUpTo v (take i xs) tells w any mid → has_work (mid.agendas (get_or xs i d)) ≡ false
+    → IsUpTo v (take (i + 1) xs) tells w any mid
+skipped-at v tells xs i d w any mid lt h rests = subst (λ (ys : List Actor). IsUpTo v ys tells w any mid) (sym (take_more xs i d lt)) (skipped v tells (take i xs) (get_or xs i d) w any mid h rests)
 
-pub cut-at : (v : Volume) (xs : List Actor) (i : ℕ) (d : Actor) (w : World) (any : Bool) (mid next : World) (cause : CutCause) → i < length xs → IsUpTo v (take i xs) w any mid → has_work (mid.agendas (get_or xs i d)) ≡ true
-    → IsTurnTaken v (get_or xs i d) mid (Err cause) next → IsRoundPlayed v xs w (Err cause) next
-cut-at v xs i d w any mid next cut.TooManyTurns lt h busy turn = (
+pub cut-at : (v : Volume) (tells : Bool) (xs : List Actor) (i : ℕ) (d : Actor) (w : World) (any : Bool) (mid next : World) (cause : CutCause) → i < length xs → IsUpTo v (take i xs) tells w any mid → has_work (mid.agendas (get_or xs i d)) ≡ true
+    → IsTurnTaken v (get_or xs i d) tells mid (Err cause) next → IsRoundPlayed v xs tells w (Err cause) next
+cut-at v tells xs i d w any mid next cut.TooManyTurns lt h busy turn = (
   take i xs,
   get_or xs i d,
   drop (i + 1) xs,
   split-at xs i d lt,
-  subst (λ (m : World). IsRound v (take i xs) w m) (sym turn.0) h.played,
+  subst (λ (m : World). IsRoundOver v (take i xs) tells w m) (sym turn.0) h.played,
   subst (λ (m : World). has_work (m.agendas (get_or xs i d)) ≡ true) (sym turn.0) busy,
   subst (λ (m : World). m.turns ≡ most_turns) (sym turn.0) turn.1,
 )
-cut-at v xs i d w any mid next cut.NoMemory lt h busy turn =
+cut-at v tells xs i d w any mid next cut.NoMemory lt h busy turn =
     (mid, (take i xs, get_or xs i d ∷ drop (i + 1) xs, split-at xs i d lt, h.played), h.few, turn)

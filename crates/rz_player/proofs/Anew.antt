@@ -5,11 +5,10 @@ use Rattle.rz_events.specs.Volume.{Volume}
 use Rattle.rz_events.specs.declared.events.Event.{Event}
 use Rattle.rz_script.specs.declared.line.Line.{Line}
 use Rattle.rz_play.specs.World.{World}
-use Rattle.rz_play.specs.Free.{PlaysLinesOver}
+use Rattle.rz_play.specs.Played.{PlaysLinesOver}
 use Rattle.rz_player.specs.declared.lines.PlayEnd.{PlayEnd}
 use Rattle.rz_player.specs.Behind.{behind}
-use Rattle.rz_player.specs.Ends.{IsEnded}
-use Rattle.rz_player.specs.Free.{IsEndedOver}
+use Rattle.rz_player.specs.Ends.{IsEnded, IsEndedOver}
 
 pub anew : (w : World) → behind [] w ≡ w
 anew w = ap (λ (h : List Event). record w { log = h }) (append-nil w.log)

@@ -10,8 +10,7 @@ use Rattle.rz_script.specs.declared.line.Line.{Line}
 use Rattle.rz_script.specs.declared.line.Line.TheVariants as line
 use Rattle.rz_play.specs.World.{World, with_node}
 use Rattle.rz_play.specs.Turns.{answered}
-use Rattle.rz_play.specs.Lines.{IsAdminCall, PlaysLine, noted}
-use Rattle.rz_play.specs.Free.{IsFreeStart, PlaysLineOver}
+use Rattle.rz_play.specs.Lines.{IsAdminCall, IsFreeStart, PlaysLineOver, TakesNoTurn, noted}
 use Rattle.rz_player.specs.Behind.{behind}
 use Rattle.rz_player.specs.Ends.{TellsOf}
 
@@ -31,37 +30,19 @@ admin-behind : (v : Volume) (n : ℕ) (question : NodeAsk) (old : List Event) (w
 admin-behind v n question old w next h = record { given = h.given; given_is = h.given_is; told = h.told; next_is = with-event old w next (answered w n question h.given) (node_event Admin n question h.given) h.next_is }
 
 start-behind : (v : Volume) (n : ℕ) (old : List Event) (w next : World) → IsFreeStart v n w next → IsFreeStart v n (behind old w) (behind old next)
-start-behind v n old w next h = record { given = h.given; given_is = h.given_is; answered = h.answered; state = h.state; next_is = with-event old w next (with_node w n h.state) (node_event Admin n ask.Start h.given) h.next_is }
+start-behind v n old w next h = record { given = h.given; given_is = h.given_is; answered = h.answered; state = h.state; started = h.started; next_is = with-event old w next (with_node w n h.state) (node_event Admin n ask.Start h.given) h.next_is }
 
--- a line without turns
-abbrev pub HasNoTurn : Line → Type 0
-HasNoTurn (line.Turn by k) = ⊥
-HasNoTurn (line.Rounds k) = ⊥
-HasNoTurn line.Rest = ⊥
-HasNoTurn _ = Unit {0}
-
-plain-behind : (v : Volume) (l : Line) (old : List Event) (w next : World) → HasNoTurn l → PlaysLine v l w next → PlaysLine v l (behind old w) (behind old next)
-plain-behind v (line.Op by op) old w next calm h = ap (behind old) h
-plain-behind v (line.Turn by k) old w next calm h = absurd calm
-plain-behind v (line.Rounds k) old w next calm h = absurd calm
-plain-behind v line.Rest old w next calm h = absurd calm
-plain-behind v (line.Stop n) old w next calm h = admin-behind v n _ old w next h
-plain-behind v (line.Start n) old w next calm h = admin-behind v n _ old w next h
-plain-behind v (line.Lose n) old w next calm h = admin-behind v n _ old w next h
-plain-behind v (line.Break n k pick) old w next calm h = ap (behind old) h
-plain-behind v (line.Miss by reply) old w next calm h = ap (behind old) h
-
-pub line-behind : (v : Volume) (l : Line) (tells : Bool) (old : List Event) (w next : World) → HasNoTurn l → PlaysLineOver v l tells w next → PlaysLineOver v l tells (behind old w) (behind old next)
-line-behind v (line.Op by op) tells old w next calm h = plain-behind v (line.Op by op) old w next calm h
+pub line-behind : (v : Volume) (l : Line) (tells : Bool) (old : List Event) (w next : World) → TakesNoTurn l → PlaysLineOver v l tells w next → PlaysLineOver v l tells (behind old w) (behind old next)
+line-behind v (line.Op by op) tells old w next calm h = ap (behind old) h
 line-behind v (line.Turn by k) tells old w next calm h = absurd calm
 line-behind v (line.Rounds k) tells old w next calm h = absurd calm
 line-behind v line.Rest tells old w next calm h = absurd calm
-line-behind v (line.Stop n) tells old w next calm h = plain-behind v (line.Stop n) old w next calm h
-line-behind v (line.Start n) true old w next calm h = plain-behind v (line.Start n) old w next calm h
+line-behind v (line.Stop n) tells old w next calm h = admin-behind v n _ old w next h
+line-behind v (line.Start n) true old w next calm h = admin-behind v n _ old w next h
 line-behind v (line.Start n) false old w next calm h = start-behind v n old w next h
-line-behind v (line.Lose n) tells old w next calm h = plain-behind v (line.Lose n) old w next calm h
-line-behind v (line.Break n k pick) tells old w next calm h = plain-behind v (line.Break n k pick) old w next calm h
-line-behind v (line.Miss by reply) tells old w next calm h = plain-behind v (line.Miss by reply) old w next calm h
+line-behind v (line.Lose n) tells old w next calm h = admin-behind v n _ old w next h
+line-behind v (line.Break n k pick) tells old w next calm h = ap (behind old) h
+line-behind v (line.Miss by reply) tells old w next calm h = ap (behind old) h
 
 pub tells-behind : (old : List Event) (last next : World) → TellsOf last next → TellsOf (behind old last) (behind old next)
 tells-behind old last next h = (ap (λ (log : List Event). log ++ old) h.0, h.1)

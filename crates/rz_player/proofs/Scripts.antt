@@ -1,5 +1,5 @@
 -- A script, line by line, over disks that tell their texts or that do not.
-use Rattle.std.proofs.Common.{ℕ, zero, suc, Bool, true, false, IsTrue, ◌≡◌, ◌+◌, ◌<◌, ◌≤◌, List, [], ◌∷◌, ◌++◌, Err, length, get_or, take, drop, subst, sym, refl, arith, inl, inr, add-one, drop-cons, take-append-drop}
+use Rattle.std.proofs.Common.{ℕ, zero, suc, Bool, true, IsTrue, ◌≡◌, ◌+◌, ◌<◌, ◌≤◌, List, [], ◌∷◌, ◌++◌, Err, length, get_or, take, drop, subst, sym, refl, arith, inl, inr, add-one, drop-cons, take-append-drop}
 use Rattle.std.proofs.lemmas.List.{take_more}
 use Rattle.rz_events.specs.Volume.{Volume}
 use Rattle.rz_events.specs.declared.events.Event.{Event}
@@ -7,15 +7,13 @@ use Rattle.rz_script.specs.declared.line.Line.{Line}
 use Rattle.rz_script.specs.declared.line.Line.TheVariants as line
 use Rattle.rz_script.specs.Lines.{IsLine, AreLines}
 use Rattle.rz_play.specs.World.{World}
-use Rattle.rz_play.specs.Lines.{PlaysLine}
-use Rattle.rz_play.specs.Stops.{StopCause, TurnsSpent, StopsLine, BeginsLine, most_turns}
-use Rattle.rz_play.specs.Played.{PlaysLines, StopsLines, BeginsLines}
+use Rattle.rz_play.specs.Lines.{PlaysLineOver, TakesNoTurn}
+use Rattle.rz_play.specs.Stops.{StopCause, TurnsSpent, StopsLineOver, BeginsLineOver, most_turns}
+use Rattle.rz_play.specs.Played.{PlaysLinesOver, StopsLinesOver, BeginsLinesOver}
 use Rattle.rz_player.specs.declared.turns.CutCause.TheVariants as cut
 use Rattle.rz_player.specs.declared.lines.PlayEnd.{PlayEnd}
 use Rattle.rz_player.specs.declared.lines.PlayEnd.TheVariants as end
-use Rattle.rz_player.specs.Ends.{CutsOff, IsEnded}
-use Rattle.rz_play.specs.Free.{PlaysLineOver, PlaysLinesOver, StopsLinesOver, BeginsLinesOver}
-use Rattle.rz_player.specs.Free.{ComesTo, IsLinePlayedOver, IsEndedOver}
+use Rattle.rz_player.specs.Ends.{ComesTo, CutsOff, IsEnded, IsEndedOver, IsLinePlayed, IsLogOf, TellsOf}
 
 pub line-at : (v : Volume) (xs : List Line) (i : ℕ) (d : Line) → AreLines v xs → i < length xs → IsLine v (get_or xs i d)
 line-at v [] i d all lt = absurd (omega arith)
@@ -33,17 +31,17 @@ lines-more v tells (y ∷ done) x w mid next h played = (h.0, h.1, lines-more v 
 pub lines-at : (v : Volume) (tells : Bool) (xs : List Line) (i : ℕ) (d : Line) (w mid next : World) → i < length xs → PlaysLinesOver v (take i xs) tells w mid → PlaysLineOver v (get_or xs i d) tells mid next → PlaysLinesOver v (take (i + 1) xs) tells w next
 lines-at v tells xs i d w mid next lt h played = subst (λ (ys : List Line). PlaysLinesOver v ys tells w next) (sym (take_more xs i d lt)) (lines-more v tells (take i xs) (get_or xs i d) w mid next h played)
 
-stops-after : (v : Volume) (cause : StopCause) (tells : Bool) (done : List Line) (x : Line) (more : List Line) (w mid next : World) → PlaysLinesOver v done tells w mid → StopsLine v cause x mid next → StopsLinesOver v cause (done ++ x ∷ more) tells w next
-stops-after v cause tells [] x more w mid next same stops = inl (subst (λ (m : World). StopsLine v cause x m next) same stops)
+stops-after : (v : Volume) (cause : StopCause) (tells : Bool) (done : List Line) (x : Line) (more : List Line) (w mid next : World) → PlaysLinesOver v done tells w mid → StopsLineOver v cause x tells mid next → StopsLinesOver v cause (done ++ x ∷ more) tells w next
+stops-after v cause tells [] x more w mid next same stops = inl (subst (λ (m : World). StopsLineOver v cause x tells m next) same stops)
 stops-after v cause tells (y ∷ done) x more w mid next h stops = inr (h.0, h.1, stops-after v cause tells done x more h.0 mid next h.2 stops)
 
-begins-after : (v : Volume) (tells : Bool) (done : List Line) (x : Line) (more : List Line) (w mid next : World) → PlaysLinesOver v done tells w mid → BeginsLine v x mid next → BeginsLinesOver v (done ++ x ∷ more) tells w next
-begins-after v tells [] x more w mid next same begins = inl (subst (λ (m : World). BeginsLine v x m next) same begins)
+begins-after : (v : Volume) (tells : Bool) (done : List Line) (x : Line) (more : List Line) (w mid next : World) → PlaysLinesOver v done tells w mid → BeginsLineOver v x tells mid next → BeginsLinesOver v (done ++ x ∷ more) tells w next
+begins-after v tells [] x more w mid next same begins = inl (subst (λ (m : World). BeginsLineOver v x tells m next) same begins)
 begins-after v tells (y ∷ done) x more w mid next h begins = inr (h.0, h.1, begins-after v tells done x more h.0 mid next h.2 begins)
 
 -- it stopped before a turn that is one too many
 pub script-stopped : (v : Volume) (tells : Bool) (xs : List Line) (i : ℕ) (d : Line) (w mid next : World) (lost : ℕ) → i < length xs → PlaysLinesOver v (take i xs) tells w mid
-    → IsLinePlayedOver v (get_or xs i d) tells mid (Err cut.TooManyTurns) next → next.lost ≤ lost → IsEndedOver tells v w xs end.TooManyTurns lost next.log
+    → IsLinePlayed v (get_or xs i d) tells mid (Err cut.TooManyTurns) next → next.lost ≤ lost → IsEndedOver tells v w xs end.TooManyTurns lost next.log
 script-stopped v tells xs i d w mid next lost lt h stops few = record {
   last = next;
   played = subst (λ (ys : List Line). StopsLinesOver v TurnsSpent ys tells w next) (sym (split-at xs i d lt)) (stops-after v TurnsSpent tells (take i xs) (get_or xs i d) (drop (i + 1) xs) w mid next h stops);
@@ -60,7 +58,7 @@ begun-so tells v w last xs journaled end.JournalFull cuts h = h
 
 -- it was cut off
 pub script-cut : (v : Volume) (tells : Bool) (xs : List Line) (i : ℕ) (d : Line) (w mid next : World) (journaled : Bool) (e : PlayEnd) (lost : ℕ) → CutsOff journaled e → i < length xs → PlaysLinesOver v (take i xs) tells w mid
-    → IsLinePlayedOver v (get_or xs i d) tells mid (Err cut.NoMemory) next → next.lost ≤ lost → IsEndedOver tells v w xs e lost next.log
+    → IsLinePlayed v (get_or xs i d) tells mid (Err cut.NoMemory) next → next.lost ≤ lost → IsEndedOver tells v w xs e lost next.log
 script-cut v tells xs i d w mid next journaled e lost cuts lt h begins few = record {
   last = begins.0;
   played = begun-so tells v w begins.0 xs journaled e cuts
@@ -69,37 +67,26 @@ script-cut v tells xs i d w mid next journaled e lost cuts lt h begins few = rec
   log_is = sym begins.3.0;
 }
 
+-- a line without turns that was not carried out: nothing of it was
+pub order-cut : (v : Volume) (l : Line) (tells : Bool) (w next : World) → TakesNoTurn l → w.turns ≤ most_turns → TellsOf w next → IsLogOf (BeginsLineOver v l tells w) next
+order-cut v (line.Op by op) tells w next calm few h = (w, refl, few, h)
+order-cut v (line.Turn by k) tells w next calm few h = absurd calm
+order-cut v (line.Rounds k) tells w next calm few h = absurd calm
+order-cut v line.Rest tells w next calm few h = absurd calm
+order-cut v (line.Stop n) tells w next calm few h = (w, refl, few, h)
+order-cut v (line.Start n) tells w next calm few h = (w, refl, few, h)
+order-cut v (line.Lose n) tells w next calm few h = (w, refl, few, h)
+order-cut v (line.Break n k pick) tells w next calm few h = (w, refl, few, h)
+order-cut v (line.Miss by reply) tells w next calm few h = (w, refl, few, h)
+
 -- Over disks that tell their texts.
 
-told-line : (v : Volume) (l : Line) (tells : Bool) (w next : World) → IsTrue tells → PlaysLineOver v l tells w next → PlaysLine v l w next
-told-line v (line.Op by op) tells w next told h = h
-told-line v (line.Turn by k) tells w next told h = h
-told-line v (line.Rounds k) tells w next told h = h
-told-line v line.Rest tells w next told h = h
-told-line v (line.Stop n) tells w next told h = h
-told-line v (line.Start n) true w next told h = h
-told-line v (line.Start n) false w next told h = grind (arith, told)
-told-line v (line.Lose n) tells w next told h = h
-told-line v (line.Break n k pick) tells w next told h = h
-told-line v (line.Miss by reply) tells w next told h = h
-
-told-lines : (v : Volume) (lines : List Line) (tells : Bool) (w next : World) → IsTrue tells → PlaysLinesOver v lines tells w next → PlaysLines v lines w next
-told-lines v [] tells w next told h = h
-told-lines v (l ∷ lines) tells w next told h = (h.0, told-line v l tells w h.0 told h.1, told-lines v lines tells h.0 next told h.2)
-
-told-stops : (v : Volume) (cause : StopCause) (lines : List Line) (tells : Bool) (w next : World) → IsTrue tells → StopsLinesOver v cause lines tells w next → StopsLines v cause lines w next
-told-stops v cause [] tells w next told h = h
-told-stops v cause (l ∷ lines) tells w next told (inl here) = inl here
-told-stops v cause (l ∷ lines) tells w next told (inr h) = inr (h.0, told-line v l tells w h.0 told h.1, told-stops v cause lines tells h.0 next told h.2)
-
-told-begins : (v : Volume) (lines : List Line) (tells : Bool) (w next : World) → IsTrue tells → BeginsLinesOver v lines tells w next → BeginsLines v lines w next
-told-begins v [] tells w next told h = h
-told-begins v (l ∷ lines) tells w next told (inl here) = inl here
-told-begins v (l ∷ lines) tells w next told (inr h) = inr (h.0, told-line v l tells w h.0 told h.1, told-begins v lines tells h.0 next told h.2)
+ended-true : (v : Volume) (first : World) (lines : List Line) (e : PlayEnd) (lost : ℕ) (h : List Event) → IsEndedOver true v first lines e lost h → IsEnded v first lines e lost h
+ended-true v first lines end.Ended lost h over = (record { last = over.last; played = over.played.0; few = over.played.1; log_is = over.log_is }, over.losses)
+ended-true v first lines end.TooManyTurns lost h over = (record { last = over.last; played = over.played; log_is = over.log_is }, over.losses)
+ended-true v first lines end.NoMemory lost h over = (record { last = over.last; played = over.played.0; few = over.played.1; log_is = over.log_is }, over.losses)
+ended-true v first lines end.Journal lost h over = (record { last = over.last; played = over.played.0; few = over.played.1; log_is = over.log_is }, over.losses)
+ended-true v first lines end.JournalFull lost h over = (record { last = over.last; played = over.played.0; few = over.played.1; log_is = over.log_is }, over.losses)
 
 pub told : (tells : Bool) (v : Volume) (first : World) (lines : List Line) (e : PlayEnd) (lost : ℕ) (h : List Event) → IsTrue tells → IsEndedOver tells v first lines e lost h → IsEnded v first lines e lost h
-told tells v first lines end.Ended lost h is over = (record { last = over.last; played = told-lines v lines tells first over.last is over.played.0; few = over.played.1; log_is = over.log_is }, over.losses)
-told tells v first lines end.TooManyTurns lost h is over = (record { last = over.last; played = told-stops v TurnsSpent lines tells first over.last is over.played; log_is = over.log_is }, over.losses)
-told tells v first lines end.NoMemory lost h is over = (record { last = over.last; played = told-begins v lines tells first over.last is over.played.0; few = over.played.1; log_is = over.log_is }, over.losses)
-told tells v first lines end.Journal lost h is over = (record { last = over.last; played = told-begins v lines tells first over.last is over.played.0; few = over.played.1; log_is = over.log_is }, over.losses)
-told tells v first lines end.JournalFull lost h is over = (record { last = over.last; played = told-begins v lines tells first over.last is over.played.0; few = over.played.1; log_is = over.log_is }, over.losses)
+told tells v first lines e lost h is over = ended-true v first lines e lost h (subst (λ (t : Bool). IsEndedOver t v first lines e lost h) is over)

@@ -7,10 +7,10 @@ use Rattle.rz_events.specs.declared.keys.Actor.{Actor}
 use Rattle.rz_events.specs.declared.events.Event.{Event}
 use Rattle.rz_script.specs.declared.line.Line.{Line}
 use Rattle.rz_play.specs.World.{World, has_work}
-use Rattle.rz_play.specs.Turns.{IsTurn}
-use Rattle.rz_play.specs.Lines.{IsRound, PlaysLine}
-use Rattle.rz_play.specs.Stops.{TurnsSpent, HasCause, StopsLine, BeginsLine, most_turns}
-use Rattle.rz_play.specs.Played.{IsPlayedFrom, IsStoppedFrom, IsBegunFrom}
+use Rattle.rz_play.specs.Free.{IsTurnOver}
+use Rattle.rz_play.specs.Lines.{IsRoundOver, PlaysLineOver}
+use Rattle.rz_play.specs.Stops.{TurnsSpent, HasCause, StopsLineOver, BeginsLineOver, most_turns}
+use Rattle.rz_play.specs.Played.{PlaysLinesOver, StopsLinesOver, BeginsLinesOver, IsPlayedFrom, IsStoppedFrom, IsBegunFrom}
 use Rattle.rz_player.specs.Behind.{Before}
 use Rattle.rz_player.specs.declared.turns.CutCause.{CutCause}
 use Rattle.rz_player.specs.declared.turns.CutCause.TheVariants as cut
@@ -29,11 +29,13 @@ TellsOf last next = (next.log ≡ last.log) × (next.lost ≡ last.lost)
 abbrev pub IsLogOf : (World → Type 0) → World → Type 0
 IsLogOf begun next = (last : World) × begun last × (last.turns ≤ most_turns) × TellsOf last next
 
+-- Over disks that tell their texts or that do not.
+
 -- a turn
-abbrev pub IsTurnTaken : Volume → Actor → World → Result (Unit {0}) CutCause → World → Type 0
-IsTurnTaken v by w (Ok done) next = IsTurn v by w next × (w.turns < most_turns)
-IsTurnTaken v by w (Err cut.TooManyTurns) next = (next ≡ w) × HasCause v TurnsSpent w by
-IsTurnTaken v by w (Err cut.NoMemory) next = TellsOf w next
+abbrev pub IsTurnTaken : Volume → Actor → (tells : Bool) → World → Result (Unit {0}) CutCause → World → Type 0
+IsTurnTaken v by tells w (Ok done) next = IsTurnOver v by tells w next × (w.turns < most_turns)
+IsTurnTaken v by tells w (Err cut.TooManyTurns) next = (next ≡ w) × HasCause v TurnsSpent w by
+IsTurnTaken v by tells w (Err cut.NoMemory) next = TellsOf w next
 
 -- A round of these actors: whether one had work, and took a turn.
 
@@ -42,17 +44,17 @@ HadWork actors w true next = w.turns < next.turns
 HadWork actors w false next = (next ≡ w) × AllByRecursion (λ by. has_work (w.agendas by) ≡ false) actors
 
 -- it stops before the turn of one that has work
-abbrev pub StopsAmong : Volume → List Actor → World → World → Type 0
-StopsAmong v actors w next = (done : List Actor) × (by : Actor) × (more : List Actor) × (actors ≡ done ++ by ∷ more)
-    × IsRound v done w next × (has_work (next.agendas by) ≡ true) × HasCause v TurnsSpent next by
+abbrev pub StopsAmong : Volume → List Actor → (tells : Bool) → World → World → Type 0
+StopsAmong v actors tells w next = (done : List Actor) × (by : Actor) × (more : List Actor) × (actors ≡ done ++ by ∷ more)
+    × IsRoundOver v done tells w next × (has_work (next.agendas by) ≡ true) × HasCause v TurnsSpent next by
 
-abbrev pub BeginsAmong : Volume → List Actor → World → World → Type 0
-BeginsAmong v actors w next = (done more : List Actor) × (actors ≡ done ++ more) × IsRound v done w next
+abbrev pub BeginsAmong : Volume → List Actor → (tells : Bool) → World → World → Type 0
+BeginsAmong v actors tells w next = (done more : List Actor) × (actors ≡ done ++ more) × IsRoundOver v done tells w next
 
-abbrev pub IsRoundPlayed : Volume → List Actor → World → Result Bool CutCause → World → Type 0
-IsRoundPlayed v actors w (Ok any) next = IsRound v actors w next × HadWork actors w any next × (next.turns ≤ most_turns)
-IsRoundPlayed v actors w (Err cut.TooManyTurns) next = StopsAmong v actors w next
-IsRoundPlayed v actors w (Err cut.NoMemory) next = IsLogOf (BeginsAmong v actors w) next
+abbrev pub IsRoundPlayed : Volume → List Actor → (tells : Bool) → World → Result Bool CutCause → World → Type 0
+IsRoundPlayed v actors tells w (Ok any) next = IsRoundOver v actors tells w next × HadWork actors w any next × (next.turns ≤ most_turns)
+IsRoundPlayed v actors tells w (Err cut.TooManyTurns) next = StopsAmong v actors tells w next
+IsRoundPlayed v actors tells w (Err cut.NoMemory) next = IsLogOf (BeginsAmong v actors tells w) next
 
 -- a round in which an actor had work counts its turns
 abbrev pub CountsTurns : Result Bool CutCause → World → World → Type 0
@@ -60,10 +62,10 @@ CountsTurns (Ok true) w next = w.turns < next.turns
 CountsTurns result w next = Unit {0}
 
 -- a line
-abbrev pub IsLinePlayed : Volume → Line → World → Result (Unit {0}) CutCause → World → Type 0
-IsLinePlayed v line w (Ok done) next = PlaysLine v line w next × (next.turns ≤ most_turns)
-IsLinePlayed v line w (Err cut.TooManyTurns) next = StopsLine v TurnsSpent line w next
-IsLinePlayed v line w (Err cut.NoMemory) next = IsLogOf (BeginsLine v line w) next
+abbrev pub IsLinePlayed : Volume → Line → (tells : Bool) → World → Result (Unit {0}) CutCause → World → Type 0
+IsLinePlayed v line tells w (Ok done) next = PlaysLineOver v line tells w next × (next.turns ≤ most_turns)
+IsLinePlayed v line tells w (Err cut.TooManyTurns) next = StopsLineOver v TurnsSpent line tells w next
+IsLinePlayed v line tells w (Err cut.NoMemory) next = IsLogOf (BeginsLineOver v line tells w) next
 
 -- what is so where a line, a round or a turn stopped before a turn that is one too many
 abbrev pub OnStop : {A : Type 0} → Result A CutCause → Type 0 → Type 0
@@ -84,7 +86,20 @@ EndsBy journaled why end.Ended = Unit {0}
 EndsBy journaled why end.TooManyTurns = Unit {0}
 EndsBy journaled why e = (e ≡ why) × CutsOff journaled e
 
--- A script, by how its play ended. The link has lost at most so many messages then.
+-- how the play of a script came to this world
+abbrev pub ComesTo : Volume → List Line → (tells : Bool) → PlayEnd → World → World → Type 0
+ComesTo v lines tells end.Ended first last = PlaysLinesOver v lines tells first last × (last.turns ≤ most_turns)
+ComesTo v lines tells end.TooManyTurns first last = StopsLinesOver v TurnsSpent lines tells first last
+ComesTo v lines tells cut_off first last = BeginsLinesOver v lines tells first last × (last.turns ≤ most_turns)
+
+-- The log of a script, the newest event first, by how its play ended. The link has lost at most so many messages then.
+pub record IsEndedOver (tells : Bool) (v : Volume) (first : World) (lines : List Line) (end : PlayEnd) (lost : ℕ) (h : List Event) : Type 0 where
+  pub last : World
+  pub played : ComesTo v lines tells end first last
+  pub losses : last.lost ≤ lost
+  pub log_is : last.log ≡ h
+
+-- Over disks that tell their texts.
 abbrev pub IsEnded : Volume → World → List Line → PlayEnd → ℕ → List Event → Type 0
 IsEnded v first lines end.Ended lost h = (p : IsPlayedFrom v first lines h) × (p.last.lost ≤ lost)
 IsEnded v first lines end.TooManyTurns lost h = (p : IsStoppedFrom v TurnsSpent first lines h) × (p.last.lost ≤ lost)

@@ -1,4 +1,3 @@
 pub mod Behind
 pub mod Ends
-pub mod Free
 pub mod Messages

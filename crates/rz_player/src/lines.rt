@@ -1,11 +1,10 @@
 //! The lines of a script, one after another.
-ghost use Rattle.std.specs.Prelude.{◌≡◌, ◌≤◌, ◌+◌, ◌-◌, ◌++◌, true, IsTrue, OnOk, OnErr};
+ghost use Rattle.std.specs.Prelude.{◌≡◌, ◌≤◌, ◌+◌, ◌-◌, ◌++◌, IsTrue, OnOk, OnErr};
 ghost use Rattle.rz_script.specs.Lines.{IsLine, AreLines};
 ghost use Rattle.rz_play.specs.Stops.{most_turns};
 ghost use Rattle.rz_player.specs.Behind.{Before, behind};
-ghost use Rattle.rz_player.specs.Ends.{Carries, EndsBy, IsEnded, OnStop};
-ghost use Rattle.rz_play.specs.Free.{PlaysLinesOver};
-ghost use Rattle.rz_player.specs.Free.{IsLinePlayedOver, IsEndedOver};
+ghost use Rattle.rz_play.specs.Played.{PlaysLinesOver};
+ghost use Rattle.rz_player.specs.Ends.{Carries, EndsBy, IsLinePlayed, IsEnded, IsEndedOver, OnStop};
 
 use crate::rounds::{play_rounds, play_to_rest};
 use crate::stage::Stage;
@@ -34,25 +33,24 @@ fn play_line<S: Stage, L: Link>(stage: &mut S, line: &Line, link: &mut L) -> Res
     requires few { (S.world stage.old).turns ≤ most_turns }
     ensures volume { S.volume stage.new ≡ S.volume stage.old }
     ensures journal { S.journaled stage.new ≡ S.journaled stage.old }
-    ensures exact { S.exact stage.new ≡ S.exact stage.old }
     ensures ready { OnOk result (S.is_ready stage.new) }
     ensures few { OnOk result ((S.world stage.new).turns ≤ most_turns) }
     ensures lost { (S.world stage.new).lost + L.lost link.old ≤ (S.world stage.old).lost + L.lost link.new }
     ensures held { OnOk result (Carries (S.holds stage.old) (S.holds stage.new)) }
     ensures left { OnErr result (Carries (S.holds stage.old) (S.leaves stage.new)) }
     ensures stopped { OnStop result (S.is_ready stage.new × Carries (S.holds stage.old) (S.holds stage.new)) }
-    ensures played { (b : Before) → S.holds stage.old b → S.exact stage.old ≡ true → IsLinePlayedOver (S.volume stage.old) line.now S.tells (behind b.log (S.world stage.old)) result (behind b.log (S.world stage.new)) }
+    ensures played { (b : Before) → S.holds stage.old b → IsLinePlayed (S.volume stage.old) line.now S.tells (behind b.log (S.world stage.old)) result (behind b.log (S.world stage.new)) }
 {
     match line {
-        Line::Op { by, op } => stage.add(*by, op)?,
         Line::Turn { by, k } => take_turns(stage, *by, *k, link)?,
         Line::Rounds { k } => play_rounds(stage, *k, link)?,
         Line::Rest => play_to_rest(stage, link)?,
-        Line::Stop { node } => stage.stop(*node)?,
-        Line::Start { node } => stage.start(*node)?,
-        Line::Lose { node } => stage.lose(*node)?,
-        Line::Break { node, k, pick } => stage.arm(*node, *k, *pick)?,
-        Line::Miss { by, reply } => stage.miss(*by, *reply),
+        Line::Op { .. }
+        | Line::Stop { .. }
+        | Line::Start { .. }
+        | Line::Lose { .. }
+        | Line::Break { .. }
+        | Line::Miss { .. } => stage.order(line)?,
     }
     Ok(())
 }
@@ -67,7 +65,6 @@ pub fn play<S: Stage, L: Link>(stage: &mut S, lines: &[Line], link: &mut L) -> P
     ensures lost { (S.world stage.new).lost + L.lost link.old ≤ (S.world stage.old).lost + L.lost link.new }
     ensures played { (b : Before) → S.holds stage.old b → IsTrue S.tells → IsEnded (S.volume stage.old) (behind b.log (S.world stage.old)) lines.now result ((S.world stage.old).lost + (L.lost link.new - L.lost link.old)) ((S.world stage.new).log ++ b.log) }
     ensures journal { S.journaled stage.new ≡ S.journaled stage.old }
-    ensures exact { S.exact stage.new ≡ S.exact stage.old }
 
     // Where a turn, a line or an order was not done, the stage says how the play ends.
     ensures cut { EndsBy (S.journaled stage.old) (S.cut_off stage.new) result }
@@ -78,10 +75,10 @@ pub fn play<S: Stage, L: Link>(stage: &mut S, lines: &[Line], link: &mut L) -> P
     // After the last line the stage can be played on further.
     ensures ready { result ≡ PlayEnd.Ended → S.is_ready stage.new }
     ensures held { result ≡ PlayEnd.Ended → Carries (S.holds stage.old) (S.holds stage.new) }
-    ensures whole { result ≡ PlayEnd.Ended → (b : Before) → S.holds stage.old b → S.exact stage.old ≡ true → PlaysLinesOver (S.volume stage.old) lines.now S.tells (behind b.log (S.world stage.old)) (behind b.log (S.world stage.new)) }
+    ensures whole { result ≡ PlayEnd.Ended → (b : Before) → S.holds stage.old b → PlaysLinesOver (S.volume stage.old) lines.now S.tells (behind b.log (S.world stage.old)) (behind b.log (S.world stage.new)) }
 
-    // Where a disk does not tell its text, only what a start finds on it is not said.
-    ensures over { (b : Before) → S.holds stage.old b → S.exact stage.old ≡ true → IsEndedOver S.tells (S.volume stage.old) (behind b.log (S.world stage.old)) lines.now result ((S.world stage.old).lost + (L.lost link.new - L.lost link.old)) ((S.world stage.new).log ++ b.log) }
+    // Where a disk does not tell its text, only what a start or a read finds on it is not said.
+    ensures over { (b : Before) → S.holds stage.old b → IsEndedOver S.tells (S.volume stage.old) (behind b.log (S.world stage.old)) lines.now result ((S.world stage.old).lost + (L.lost link.new - L.lost link.old)) ((S.world stage.new).log ++ b.log) }
 {
     for line in lines {
         match play_line(stage, line, link) {

@@ -1,5 +1,5 @@
 //! Rounds, in which each actor that has work takes a turn.
-ghost use Rattle.std.specs.Prelude.{◌≡◌, ◌≤◌, ◌+◌, true, OnOk, OnErr};
+ghost use Rattle.std.specs.Prelude.{◌≡◌, ◌≤◌, ◌+◌, OnOk, OnErr};
 ghost use Rattle.std.specs.List.{AllByRecursion};
 ghost use Rattle.rz_script.specs.Lines.{IsActor};
 ghost use Rattle.rz_script.specs.declared.line.Line.TheVariants as line;
@@ -108,7 +108,6 @@ fn take_round<S: Stage, L: Link>(
     requires few { (S.world stage.old).turns ≤ most_turns }
     ensures volume { S.volume stage.new ≡ S.volume stage.old }
     ensures journal { S.journaled stage.new ≡ S.journaled stage.old }
-    ensures exact { S.exact stage.new ≡ S.exact stage.old }
     ensures ready { OnOk result (S.is_ready stage.new) }
     ensures lost { (S.world stage.new).lost + L.lost link.old ≤ (S.world stage.old).lost + L.lost link.new }
     ensures held { OnOk result (Carries (S.holds stage.old) (S.holds stage.new)) }
@@ -116,7 +115,7 @@ fn take_round<S: Stage, L: Link>(
     ensures stopped { OnStop result (S.is_ready stage.new × Carries (S.holds stage.old) (S.holds stage.new)) }
     ensures counted { CountsTurns result (S.world stage.old) (S.world stage.new) }
     ensures few { OnOk result ((S.world stage.new).turns ≤ most_turns) }
-    ensures played { (b : Before) → S.holds stage.old b → S.exact stage.old ≡ true → IsRoundPlayed (S.volume stage.old) actors.now (behind b.log (S.world stage.old)) result (behind b.log (S.world stage.new)) }
+    ensures played { (b : Before) → S.holds stage.old b → IsRoundPlayed (S.volume stage.old) actors.now S.tells (behind b.log (S.world stage.old)) result (behind b.log (S.world stage.new)) }
 {
     let mut any = false;
     for by in actors {
@@ -134,7 +133,6 @@ fn play_round<S: Stage, L: Link>(stage: &mut S, link: &mut L) -> Result<bool, Cu
     requires few { (S.world stage.old).turns ≤ most_turns }
     ensures volume { S.volume stage.new ≡ S.volume stage.old }
     ensures journal { S.journaled stage.new ≡ S.journaled stage.old }
-    ensures exact { S.exact stage.new ≡ S.exact stage.old }
     ensures ready { OnOk result (S.is_ready stage.new) }
     ensures lost { (S.world stage.new).lost + L.lost link.old ≤ (S.world stage.old).lost + L.lost link.new }
     ensures held { OnOk result (Carries (S.holds stage.old) (S.holds stage.new)) }
@@ -142,7 +140,7 @@ fn play_round<S: Stage, L: Link>(stage: &mut S, link: &mut L) -> Result<bool, Cu
     ensures stopped { OnStop result (S.is_ready stage.new × Carries (S.holds stage.old) (S.holds stage.new)) }
     ensures counted { CountsTurns result (S.world stage.old) (S.world stage.new) }
     ensures few { OnOk result ((S.world stage.new).turns ≤ most_turns) }
-    ensures played { (b : Before) → S.holds stage.old b → S.exact stage.old ≡ true → IsRoundPlayed (S.volume stage.old) actors (behind b.log (S.world stage.old)) result (behind b.log (S.world stage.new)) }
+    ensures played { (b : Before) → S.holds stage.old b → IsRoundPlayed (S.volume stage.old) actors S.tells (behind b.log (S.world stage.old)) result (behind b.log (S.world stage.new)) }
 {
     take_round(stage, &ACTORS, link)
 }
@@ -157,14 +155,13 @@ pub(crate) fn play_rounds<S: Stage, L: Link>(
     requires few { (S.world stage.old).turns ≤ most_turns }
     ensures volume { S.volume stage.new ≡ S.volume stage.old }
     ensures journal { S.journaled stage.new ≡ S.journaled stage.old }
-    ensures exact { S.exact stage.new ≡ S.exact stage.old }
     ensures ready { OnOk result (S.is_ready stage.new) }
     ensures lost { (S.world stage.new).lost + L.lost link.old ≤ (S.world stage.old).lost + L.lost link.new }
     ensures held { OnOk result (Carries (S.holds stage.old) (S.holds stage.new)) }
     ensures left { OnErr result (Carries (S.holds stage.old) (S.leaves stage.new)) }
     ensures stopped { OnStop result (S.is_ready stage.new × Carries (S.holds stage.old) (S.holds stage.new)) }
     ensures few { OnOk result ((S.world stage.new).turns ≤ most_turns) }
-    ensures played { (b : Before) → S.holds stage.old b → S.exact stage.old ≡ true → IsLinePlayed (S.volume stage.old) (line.Rounds count) (behind b.log (S.world stage.old)) result (behind b.log (S.world stage.new)) }
+    ensures played { (b : Before) → S.holds stage.old b → IsLinePlayed (S.volume stage.old) (line.Rounds count) S.tells (behind b.log (S.world stage.old)) result (behind b.log (S.world stage.new)) }
 {
     for _ in 0..count {
         if !play_round(stage, link)? {
@@ -180,14 +177,13 @@ pub(crate) fn play_to_rest<S: Stage, L: Link>(stage: &mut S, link: &mut L) -> Re
     requires few { (S.world stage.old).turns ≤ most_turns }
     ensures volume { S.volume stage.new ≡ S.volume stage.old }
     ensures journal { S.journaled stage.new ≡ S.journaled stage.old }
-    ensures exact { S.exact stage.new ≡ S.exact stage.old }
     ensures ready { OnOk result (S.is_ready stage.new) }
     ensures lost { (S.world stage.new).lost + L.lost link.old ≤ (S.world stage.old).lost + L.lost link.new }
     ensures held { OnOk result (Carries (S.holds stage.old) (S.holds stage.new)) }
     ensures left { OnErr result (Carries (S.holds stage.old) (S.leaves stage.new)) }
     ensures stopped { OnStop result (S.is_ready stage.new × Carries (S.holds stage.old) (S.holds stage.new)) }
     ensures few { OnOk result ((S.world stage.new).turns ≤ most_turns) }
-    ensures played { (b : Before) → S.holds stage.old b → S.exact stage.old ≡ true → IsLinePlayed (S.volume stage.old) line.Rest (behind b.log (S.world stage.old)) result (behind b.log (S.world stage.new)) }
+    ensures played { (b : Before) → S.holds stage.old b → IsLinePlayed (S.volume stage.old) line.Rest S.tells (behind b.log (S.world stage.old)) result (behind b.log (S.world stage.new)) }
 {
     while play_round(stage, link)? {}
     Ok(())

@@ -1,5 +1,5 @@
 //! Turns of one actor.
-ghost use Rattle.std.specs.Prelude.{◌≡◌, ◌≤◌, ◌<◌, ◌+◌, true, OnOk, OnErr};
+ghost use Rattle.std.specs.Prelude.{◌≡◌, ◌≤◌, ◌<◌, ◌+◌, OnOk, OnErr};
 ghost use Rattle.rz_script.specs.Lines.{IsActor};
 ghost use Rattle.rz_script.specs.declared.line.Line.TheVariants as line;
 ghost use Rattle.rz_play.specs.Stops.{most_turns};
@@ -43,7 +43,6 @@ pub(crate) fn take_turn<S: Stage, L: Link>(
     requires few { (S.world stage.old).turns ≤ most_turns }
     ensures volume { S.volume stage.new ≡ S.volume stage.old }
     ensures journal { S.journaled stage.new ≡ S.journaled stage.old }
-    ensures exact { S.exact stage.new ≡ S.exact stage.old }
     ensures ready { OnOk result (S.is_ready stage.new) }
     ensures lost { (S.world stage.new).lost + L.lost link.old ≤ (S.world stage.old).lost + L.lost link.new }
     ensures held { OnOk result (Carries (S.holds stage.old) (S.holds stage.new)) }
@@ -51,7 +50,7 @@ pub(crate) fn take_turn<S: Stage, L: Link>(
     ensures stopped { OnStop result (S.is_ready stage.new × Carries (S.holds stage.old) (S.holds stage.new)) }
     ensures counted { OnOk result ((S.world stage.old).turns < (S.world stage.new).turns) }
     ensures few { OnOk result ((S.world stage.new).turns ≤ most_turns) }
-    ensures taken { (b : Before) → S.holds stage.old b → S.exact stage.old ≡ true → IsTurnTaken (S.volume stage.old) by (behind b.log (S.world stage.old)) result (behind b.log (S.world stage.new)) }
+    ensures taken { (b : Before) → S.holds stage.old b → IsTurnTaken (S.volume stage.old) by S.tells (behind b.log (S.world stage.old)) result (behind b.log (S.world stage.new)) }
 {
     if stage.turns() >= MOST_TURNS {
         return Err(CutCause::TooManyTurns);
@@ -72,14 +71,13 @@ pub(crate) fn take_turns<S: Stage, L: Link>(
     requires few { (S.world stage.old).turns ≤ most_turns }
     ensures volume { S.volume stage.new ≡ S.volume stage.old }
     ensures journal { S.journaled stage.new ≡ S.journaled stage.old }
-    ensures exact { S.exact stage.new ≡ S.exact stage.old }
     ensures ready { OnOk result (S.is_ready stage.new) }
     ensures lost { (S.world stage.new).lost + L.lost link.old ≤ (S.world stage.old).lost + L.lost link.new }
     ensures held { OnOk result (Carries (S.holds stage.old) (S.holds stage.new)) }
     ensures left { OnErr result (Carries (S.holds stage.old) (S.leaves stage.new)) }
     ensures stopped { OnStop result (S.is_ready stage.new × Carries (S.holds stage.old) (S.holds stage.new)) }
     ensures few { OnOk result ((S.world stage.new).turns ≤ most_turns) }
-    ensures played { (b : Before) → S.holds stage.old b → S.exact stage.old ≡ true → IsLinePlayed (S.volume stage.old) (line.Turn by count) (behind b.log (S.world stage.old)) result (behind b.log (S.world stage.new)) }
+    ensures played { (b : Before) → S.holds stage.old b → IsLinePlayed (S.volume stage.old) (line.Turn by count) S.tells (behind b.log (S.world stage.old)) result (behind b.log (S.world stage.new)) }
 {
     for _ in 0..count {
         take_turn(stage, by, link)?;

@@ -10,7 +10,7 @@ use Rattle.rz_nodes.specs.declared.refusal.OpenRefusal.{OpenRefusal}
 use Rattle.rz_nodes.specs.declared.refusal.OpenRefusal.TheVariants as opens
 use Rattle.rz_report.specs.Output.{Sunk}
 use Rattle.rz_report.specs.Replays.{Course, Unplayed, Unopened, Follows, IsToldAs}
-use Rattle.rz_report.specs.Telling.{PerformsAs, TellsOwn}
+use Rattle.rz_report.specs.Telling.{IsPlayAgain, PerformsAs, TellsOwn}
 use Rattle.rz_request.specs.declared.wishes.Request.{Request}
 use Rattle.rz_request.specs.declared.wishes.Wish.{Wish}
 use Rattle.rz_request.specs.declared.wishes.Wish.TheVariants.{Again}
@@ -21,10 +21,10 @@ use Rattle.rz_replay.proofs.Journals.{again-back}
 
 -- it is told by its own log
 pub own_as : (tells : Bool) (v : Volume) (lines : List Line) (wish : Wish) (end : PlayEnd) (later : List Event) (lost : ℕ) (h : List Event) (sink : Sunk) (status : ℕ) → wish ≡ Again
-    → TellsOwn end wish later h sink status → PerformsAs tells v lines wish end later lost h sink status
-own_as tells v lines wish end later lost h sink status is own =
+    → IsPlayAgain tells v lines end lost h → TellsOwn end wish later h sink status → PerformsAs tells v lines wish end later lost h sink status
+own_as tells v lines wish end later lost h sink status is play own =
     let P : Wish → Type 0 = λ w. TellsOwn end w later h sink status → PerformsAs tells v lines w end later lost h sink status in
-    subst P (sym is) (λ told. told) own
+    subst P (sym is) (λ told. (play, told)) own
 
 pub any_told : (wish : Wish) (v : Volume) (lines : List Line) (lost : ℕ) (h : List Event) → wish ≡ Again → IsToldAs wish v lines lost h
 any_told wish v lines lost h is = subst (λ (w : Wish). IsToldAs w v lines lost h) (sym is) tt

@@ -1,5 +1,5 @@
 //! What is told where the disk of a journal fails in a play, where a link loses a message or a reply, and where a
-//! scrub reads a byte wrong.
+//! byte of a record is read wrong.
 
 use super::playing::{FIRST, disks_on, play, play_over, push};
 use rz_disk::{PlainDisk, RotDisk};
@@ -124,6 +124,46 @@ fn a_scrub_reads_a_byte_wrong(rt: HostRuntime) -> Result<(), Fail> {
     let (status, text) = play(&rt, "rozo scrub --disks 4", WRITTEN, &mut disks);
     drop(disks);
     let is_told = text.as_str() == UNSURE;
+    drop(text);
+    assert!(rt; status == 0 && is_told);
+    Ok(())
+}
+
+/// The record of node 1 fits no block with that of node 2: the read says so, and the play goes on.
+const ALTERED: &str = "c1 1 created 00000000-0000-0000-0000-000000000001
+c1 2 acked 1 1110
+c1 3 inconsistent
+c1 4 acked 2 1110
+end 21
+";
+
+#[test]
+fn an_altered_bin_is_noticed(rt: HostRuntime) -> Result<(), Fail> {
+    let mut disks = rotten(&rt, 2368);
+    let script =
+        "op c1 create /f\nop c1 put /f 0 t:hello\nop c1 get /f 0\nop c1 put /f 0 t:again\nrest\n";
+    let (status, text) = play(&rt, "rozo replay --disks 4", script, &mut disks);
+    drop(disks);
+    let is_told = text.as_str() == ALTERED;
+    drop(text);
+    assert!(rt; status == 0 && is_told);
+    Ok(())
+}
+
+const LEFT: &str = "c1 1 created 00000000-0000-0000-0000-000000000001
+c1 2 acked 1 1110
+r1 1 left 2 0 1
+end 20
+";
+
+/// The rebuild of node 2 leaves the block.
+#[test]
+fn a_rebuild_leaves_an_altered_block(rt: HostRuntime) -> Result<(), Fail> {
+    let mut disks = rotten(&rt, 2368);
+    let script = "op c1 create /f\nop c1 put /f 0 t:hello\nrest\nlose n2\nop r1 rebuild n2\nrest\n";
+    let (status, text) = play(&rt, "rozo replay --disks 4", script, &mut disks);
+    drop(disks);
+    let is_told = text.as_str() == LEFT;
     drop(text);
     assert!(rt; status == 0 && is_told);
     Ok(())

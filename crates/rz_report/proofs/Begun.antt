@@ -13,8 +13,7 @@ use Rattle.rz_play_laws.specs.Runs.{IsReached}
 use Rattle.rz_play.specs.Stops.{StopCause, TurnsSpent}
 use Rattle.rz_play.specs.Played.{IsPlayedFrom, IsStoppedFrom, IsBegunFrom}
 use Rattle.rz_player.specs.Behind.{Before, behind}
-use Rattle.rz_player.specs.Ends.{IsEnded}
-use Rattle.rz_player.specs.Free.{ComesTo, IsEndedOver}
+use Rattle.rz_player.specs.Ends.{ComesTo, IsEnded, IsEndedOver}
 use Rattle.rz_report.specs.Telling.{IsPlayOf}
 use Rattle.rz_report.specs.Told.{AreLossesTold}
 use Rattle.rz_player.specs.declared.lines.PlayEnd.{PlayEnd}
@@ -79,18 +78,18 @@ losses_told law tells v lines end lost nodes s old log over =
     omega (arith, bound, few, whole)
 
 -- how a stage on which nothing was played says that a script was played, behind each earlier log
-module _ (holds : Before → Type 0) (exact tells : Bool) (v own : Volume) (w next : World) (lines given : List Line) (end : PlayEnd) (lost : ℕ) (volume_is : own ≡ v) (lines_are : given ≡ lines)
+module _ (holds : Before → Type 0) (tells : Bool) (v own : Volume) (w next : World) (lines given : List Line) (end : PlayEnd) (lost : ℕ) (volume_is : own ≡ v) (lines_are : given ≡ lines)
     (new : (nodes : ℕ → NodeState) × (s : ExportState) × (w ≡ world_after nodes s [])) (losses : AreLossesTold)
     (played : (b : Before) → holds b → IsTrue tells → IsEnded own (behind b.log w) given end (w.lost + lost) (next.log ++ b.log))
-    (over : (b : Before) → holds b → exact ≡ true → IsEndedOver tells own (behind b.log w) given end (w.lost + lost) (next.log ++ b.log)) where
+    (over : (b : Before) → holds b → IsEndedOver tells own (behind b.log w) given end (w.lost + lost) (next.log ++ b.log)) where
   none-lost : w.lost ≡ 0
   none-lost = ap (λ (x : World). x.lost) new.2
 
   pub told_play : (b : Before) → holds b → IsTrue tells → IsEnded v (behind b.log w) lines end lost (next.log ++ b.log)
   told_play b held telling = ended_play v own (behind b.log w) lines given end w.lost lost (next.log ++ b.log) volume_is lines_are none-lost (played b held telling)
 
-  pub plays_so : (b : Before) → holds b → exact ≡ true → IsPlayOf tells v (behind b.log w) lines end lost (next.log ++ b.log) next.log
-  plays_so b held is =
-      let here = ended_over v own (behind b.log w) lines given end w.lost lost (next.log ++ b.log) volume_is lines_are none-lost tells (over b held is) in
+  pub plays_so : (b : Before) → holds b → IsPlayOf tells v (behind b.log w) lines end lost (next.log ++ b.log) next.log
+  plays_so b held =
+      let here = ended_over v own (behind b.log w) lines given end w.lost lost (next.log ++ b.log) volume_is lines_are none-lost tells (over b held) in
       let P : World → Type 0 = λ x. IsEndedOver tells v (behind b.log x) lines end lost (next.log ++ b.log) in
       (told_play b held, here, losses tells v lines end lost new.0 new.1 b.log next.log (subst P new.2 here))

@@ -10,9 +10,8 @@ use Rattle.rz_script_words.specs.declared.form.Form.TheVariants as forms
 use Rattle.rz_script.specs.declared.fault.ScriptError.{ScriptError}
 use Rattle.rz_play.specs.World.{World, new_world}
 use Rattle.rz_play.specs.Stops.{TurnsSpent}
-use Rattle.rz_play.specs.Free.{StopsLinesOver}
-use Rattle.rz_player.specs.Ends.{IsEnded}
-use Rattle.rz_player.specs.Free.{IsEndedOver}
+use Rattle.rz_play.specs.Played.{StopsLinesOver}
+use Rattle.rz_player.specs.Ends.{IsEnded, IsEndedOver}
 use Rattle.rz_player.specs.declared.lines.PlayEnd.{PlayEnd}
 use Rattle.rz_player.specs.declared.lines.PlayEnd.TheVariants as ends
 use Rattle.rz_request.specs.Requests.{Asks, Reading, AsksFor, IsFor, Reads, disks_for, nodes_in, script_in}
@@ -147,7 +146,7 @@ module _ (tells : Bool) (disks : Faulted) (lost : ℕ) (sink : Sunk) (status : �
   gone-on (Performed end later) formatted opened uncut r script_is wish_is performed =
       let Q : Wish → Type 0 = λ w. PerformsAs tells r.script.volume r.script.lines w end later lost h sink status in
       let kept = uncut end later refl in
-      own-end end later kept.0 kept.1 kept.2 (subst Q wish_is performed.1)
+      own-end end later kept.0 kept.1 kept.2 (subst Q wish_is performed.1).1
 
 -- The laws.
 

@@ -7,7 +7,7 @@ use Rattle.rz_events.specs.declared.records.Held.{Held}
 use Rattle.rz_events.specs.declared.events.Event.{Event}
 use Rattle.rz_script.specs.declared.line.Line.{Line}
 use Rattle.rz_play.specs.World.{World}
-use Rattle.rz_play.specs.Free.{PlaysLinesOver}
+use Rattle.rz_play.specs.Played.{PlaysLinesOver}
 use Rattle.rz_player.specs.Behind.{Before, behind}
 use Rattle.rz_player.specs.Ends.{Carries, EndsBy}
 use Rattle.rz_player.specs.declared.lines.PlayEnd.{PlayEnd}
@@ -65,9 +65,9 @@ if_ok_all : {A E : Type 0} (P : A → Before → Type 0) (r : Result A E) (holds
 if_ok_all P (Ok x) holds p = p
 if_ok_all P (Err e) holds p = tt
 
-module _ {S : Type 0} (tells : Bool) (volume : S → Volume) (world : S → World) (journaled exact : S → Bool) (is_ready : S → Type 0) (holds : S → Before → Type 0) (described : S → Volume) (state : S → List Event → State)
+module _ {S : Type 0} (tells : Bool) (volume : S → Volume) (world : S → World) (journaled : S → Bool) (is_ready : S → Type 0) (holds : S → Before → Type 0) (described : S → Volume) (state : S → List Event → State)
     (is_open : S → Type 0) (gives : S → ℕ → Key → Held → List ℕ → List ℕ → Type 0) (counts : S → List Event → (ℕ → ℕ) → Type 0) (only_asked : S → S → Type 0)
-    (scrubbable : IsScrubbable tells volume world journaled exact is_ready holds described state is_open gives counts only_asked) where
+    (scrubbable : IsScrubbable tells volume world journaled is_ready holds described state is_open gives counts only_asked) where
   -- no line of a scrub of this store, beside these events, says that a record is altered
   abbrev Unaltered : S → List Event → List ℕ → Type 0
   Unaltered old h text = (blocks : List Listed) × AreListed (state old h).export None blocks × AreUnaltered (described old).layout blocks text
@@ -92,14 +92,13 @@ module _ {S : Type 0} (tells : Bool) (volume : S → Volume) (world : S → Worl
   sought : {A E : Type 0} (items : A → List ℕ) (old new : S) (result : Result A E)
       → ((b : Before) → holds old b → (let h = (world old).log ++ b.log in (text : List ℕ) (next : State) → IsScrubbed (described old).layout (gives old) (state old h) text next → IsTrue tells → Unaltered old h text))
       → HasAsked is_open described gives state counts only_asked old new (λ w next. IfOk result (λ (text : A). IsScrubbed (described old).layout (gives old) w (items text) next))
-      → Finds tells volume world journaled exact holds counts only_asked Ended Scrub old new (λ p. IfOk result (λ (lines : A). p (items lines)))
+      → Finds tells volume world journaled holds counts only_asked Ended Scrub old new (λ p. IfOk result (λ (lines : A). p (items lines)))
   sought items old new result sure asked = record {
     later = asked.later;
     may = asked.asks;
     volume_is = sym (scrubbable.described_is new) ∙ asked.onward.described_is ∙ scrubbable.described_is old;
     log_is = scrubbable.log_is old new asked.onward.asked;
     journal_is = scrubbable.journal_is old new asked.onward.asked;
-    exact_is = scrubbable.exact_is old new asked.onward.asked;
     left = inr (refl, refl, asked.onward.asked, λ b held. asked.onward.counted (world old).log b.counts (scrubbable.counted old b held));
     found = if_ok_all (λ text b. IsFoundIn tells (volume old) (behind b.log (world old)) asked.later (items text)) result (holds old)
         (λ b held. if_ok result (λ text told. in_stage old new b.log asked.later (items text) (sure b held (items text) (state new (asked.later ++ ((world old).log ++ b.log))) told) told)
@@ -111,9 +110,9 @@ module _ {S : Type 0} (tells : Bool) (volume : S → Volume) (world : S → Worl
       → (blocks : List Listed) × AreListed w.export None blocks × AreUnaltered (described old).layout blocks text)
       → is_ready old → length (world old).log ≤ 2 ^ 62
       → HasAsked is_open described gives state counts only_asked old new (λ w next. IfOk result (λ (text : A). IsScrubbed (described old).layout (gives old) w (items text) next))
-      → Finds tells volume world journaled exact holds counts only_asked end wish old new (λ p. IfOk result (λ (lines : A). p (items lines)))
+      → Finds tells volume world journaled holds counts only_asked end wish old new (λ p. IfOk result (λ (lines : A). p (items lines)))
   sought_here {A = A} items end wish old new result end_is wish_is law ready few asked =
-      let F : PlayEnd → Wish → Type 0 = λ e w. Finds tells volume world journaled exact holds counts only_asked e w old new (λ p. IfOk result (λ (lines : A). p (items lines))) in
+      let F : PlayEnd → Wish → Type 0 = λ e w. Finds tells volume world journaled holds counts only_asked e w old new (λ p. IfOk result (λ (lines : A). p (items lines))) in
       subst (λ (e : PlayEnd). F e wish) (sym end_is) (subst (λ (w : Wish). F Ended w) (sym wish_is)
       (sought items old new result
       (λ b held text next told telling. law (state old ((world old).log ++ b.log)) next text (scrubbable.whole old b ready held telling (all-few b (scrubbable.short old b held))) told) asked))
@@ -122,20 +121,20 @@ module _ {S : Type 0} (tells : Bool) (volume : S → Volume) (world : S → Worl
       all-few b short = let all = length-append (world old).log b.log in omega (arith, all, few, short)
 
 -- it was found after the lines, behind each earlier log
-module _ (holds held_now : Before → Type 0) (exact tells : Bool) (v : Volume) (first : World) (lines : List Line) where
+module _ (holds held_now : Before → Type 0) (tells : Bool) (v : Volume) (first : World) (lines : List Line) where
   after : (end : PlayEnd) (wish : Wish) (last : World) (later : List Event) (found : List ℕ)
-      → (end ≡ Ended → (b : Before) → holds b → exact ≡ true → PlaysLinesOver v lines tells (behind b.log first) (behind b.log last)) → (end ≡ Ended → Carries holds held_now)
+      → (end ≡ Ended → (b : Before) → holds b → PlaysLinesOver v lines tells (behind b.log first) (behind b.log last)) → (end ≡ Ended → Carries holds held_now)
       → IsSought held_now tells v last end wish later found
-      → (b : Before) → holds b → exact ≡ true → AreFoundFrom tells v (behind b.log first) lines end wish (last.log ++ b.log) later found
-  after Ended Scrub last later found whole held sought b holding is = (behind b.log last, whole refl b holding is, refl, sought b (held refl b holding))
-  after Ended Replay last later found whole held sought b holding is = sought
-  after Ended (Load seed) last later found whole held sought b holding is = sought
-  after Ended First last later found whole held sought b holding is = sought
-  after Ended Again last later found whole held sought b holding is = sought
-  after TooManyTurns wish last later found whole held sought b holding is = sought
-  after NoMemory wish last later found whole held sought b holding is = sought
-  after Journal wish last later found whole held sought b holding is = sought
-  after JournalFull wish last later found whole held sought b holding is = sought
+      → (b : Before) → holds b → AreFoundFrom tells v (behind b.log first) lines end wish (last.log ++ b.log) later found
+  after Ended Scrub last later found whole held sought b holding = (behind b.log last, whole refl b holding, refl, sought b (held refl b holding))
+  after Ended Replay last later found whole held sought b holding = sought
+  after Ended (Load seed) last later found whole held sought b holding = sought
+  after Ended First last later found whole held sought b holding = sought
+  after Ended Again last later found whole held sought b holding = sought
+  after TooManyTurns wish last later found whole held sought b holding = sought
+  after NoMemory wish last later found whole held sought b holding = sought
+  after Journal wish last later found whole held sought b holding = sought
+  after JournalFull wish last later found whole held sought b holding = sought
 
 -- what a stage tells of its own volume is so of the volume that it stands for
 pub whole_play : (tells : Bool) (v own : Volume) (first : World) (lines given : List Line) (last : World) → own ≡ v → given ≡ lines
@@ -162,10 +161,10 @@ any-end journaled why Journal is = cc
 any-end journaled why JournalFull is = cc
 
 -- what is left of the stage
-leaves_so : {S : Type 0} (tells : Bool) (volume : S → Volume) (world : S → World) (journaled exact : S → Bool) (holds leaves : S → Before → Type 0) (counts : S → List Event → (ℕ → ℕ) → Type 0) (only_asked : S → S → Type 0)
+leaves_so : {S : Type 0} (tells : Bool) (volume : S → Volume) (world : S → World) (journaled : S → Bool) (holds leaves : S → Before → Type 0) (counts : S → List Event → (ℕ → ℕ) → Type 0) (only_asked : S → S → Type 0)
     (end : PlayEnd) (wish : Wish) (first played last : S) (IfFound : (List ℕ → Type 0) → Type 0) → Carries (holds first) (leaves played) → (end ≡ Ended → Carries (holds first) (holds played))
-    → (end ≡ TooManyTurns → Carries (holds first) (holds played)) → (f : Finds tells volume world journaled exact holds counts only_asked end wish played last IfFound) → Leaves world holds leaves counts only_asked end wish first last f.later
-leaves_so {S} tells volume world journaled exact holds leaves counts only_asked end wish first played last IfFound left held stopped f = so f.left
+    → (end ≡ TooManyTurns → Carries (holds first) (holds played)) → (f : Finds tells volume world journaled holds counts only_asked end wish played last IfFound) → Leaves world holds leaves counts only_asked end wish first last f.later
+leaves_so {S} tells volume world journaled holds leaves counts only_asked end wish first played last IfFound left held stopped f = so f.left
   where
     so : ((f.later ≡ []) × (last ≡ played)) ⊎ ((end ≡ Ended) × (wish ≡ Scrub) × only_asked played last × CarriesCounts (holds played) (counts last (f.later ++ (world played).log))) → Leaves world holds leaves counts only_asked end wish first last f.later
     so (inl (none, same)) =
@@ -177,35 +176,35 @@ leaves_so {S} tells volume world journaled exact holds leaves counts only_asked 
         inr (played, scrubs, held ended, asked, subst P (sym f.log_is) (λ b holding. counted b (held ended b holding)))
 
 -- a play, and what was sought after it, as a performance
-module _ {S : Type 0} (tells : Bool) (volume : S → Volume) (world : S → World) (journaled exact : S → Bool) (was : Bool) (cut_off : S → PlayEnd) (holds leaves : S → Before → Type 0) (counts : S → List Event → (ℕ → ℕ) → Type 0)
+module _ {S : Type 0} (tells : Bool) (volume : S → Volume) (world : S → World) (journaled : S → Bool) (was : Bool) (cut_off : S → PlayEnd) (holds leaves : S → Before → Type 0) (counts : S → List Event → (ℕ → ℕ) → Type 0)
     (only_asked : S → S → Type 0) (v : Volume) (lines : List Line) (wish : Wish) (lost : ℕ) (end : PlayEnd) (first played last : S) where
-  cut_so : (IfFound : (List ℕ → Type 0) → Type 0) → Finds tells volume world journaled exact holds counts only_asked end wish played last IfFound → EndsBy was (cut_off played) end → EndsBy was (cut_off last) end
+  cut_so : (IfFound : (List ℕ → Type 0) → Type 0) → Finds tells volume world journaled holds counts only_asked end wish played last IfFound → EndsBy was (cut_off played) end → EndsBy was (cut_off last) end
   cut_so IfFound f cut = so f.left
     where
       so : ((f.later ≡ []) × (last ≡ played)) ⊎ ((end ≡ Ended) × (wish ≡ Scrub) × only_asked played last × CarriesCounts (holds played) (counts last (f.later ++ (world played).log))) → EndsBy was (cut_off last) end
       so (inl (none, same)) = let P : S → Type 0 = λ s. EndsBy was (cut_off s) end in subst P (sym same) cut
       so (inr (ended, scrubs, asked, counted)) = any-end was (cut_off last) end ended
 
-  pub performed_so : ((b : Before) → holds first b → exact first ≡ true → IsPlayOf tells v (behind b.log (world first)) lines end lost ((world played).log ++ b.log) (world played).log)
-      → (end ≡ Ended → (b : Before) → holds first b → exact first ≡ true → PlaysLinesOver v lines tells (behind b.log (world first)) (behind b.log (world played)))
+  pub performed_so : ((b : Before) → holds first b → IsPlayOf tells v (behind b.log (world first)) lines end lost ((world played).log ++ b.log) (world played).log)
+      → (end ≡ Ended → (b : Before) → holds first b → PlaysLinesOver v lines tells (behind b.log (world first)) (behind b.log (world played)))
       → volume played ≡ v → EndsBy was (cut_off played) end → Carries (holds first) (leaves played)
       → (end ≡ Ended → Carries (holds first) (holds played)) → (end ≡ TooManyTurns → Carries (holds first) (holds played))
-      → (IfFound : (List ℕ → Type 0) → Type 0) (f : Finds tells volume world journaled exact holds counts only_asked end wish played last IfFound) (sink : Sunk) (status : ℕ)
+      → (IfFound : (List ℕ → Type 0) → Type 0) (f : Finds tells volume world journaled holds counts only_asked end wish played last IfFound) (sink : Sunk) (status : ℕ)
       → ((found : List ℕ) × IsSought (holds played) tells (volume played) (world played) end wish f.later found × Says end wish found (reverse (world last).log) sink status)
       ⊎ Lacks sink status
       → (e : PlayEnd) × (later : List Event) × Leaves world holds leaves counts only_asked e wish first last later × EndsBy was (cut_off last) e
-      × PerformsBehind (holds first) (exact first) tells v (world first) lines wish e later lost (world last).log sink status
+      × PerformsBehind (holds first) tells v (world first) lines wish e later lost (world last).log sink status
   performed_so plays whole is_of cut left held stopped IfFound f sink status told =
-      let P : List Event → Type 0 = λ h. PerformsBehind (holds first) (exact first) tells v (world first) lines wish end f.later lost h sink status in
+      let P : List Event → Type 0 = λ h. PerformsBehind (holds first) tells v (world first) lines wish end f.later lost h sink status in
       let at_end : P (world played).log = (f.may, plays, tells_so told) in
-      (end, f.later, leaves_so tells volume world journaled exact holds leaves counts only_asked end wish first played last IfFound left held stopped f, cut_so IfFound f cut, subst P (sym f.log_is) at_end)
+      (end, f.later, leaves_so tells volume world journaled holds leaves counts only_asked end wish first played last IfFound left held stopped f, cut_so IfFound f cut, subst P (sym f.log_is) at_end)
     where
       tells_so : ((found : List ℕ) × IsSought (holds played) tells (volume played) (world played) end wish f.later found × Says end wish found (reverse (world last).log) sink status)
           ⊎ Lacks sink status
-          → ((found : List ℕ) × ((b : Before) → holds first b → exact first ≡ true → AreFoundFrom tells v (behind b.log (world first)) lines end wish ((world played).log ++ b.log) f.later found)
+          → ((found : List ℕ) × ((b : Before) → holds first b → AreFoundFrom tells v (behind b.log (world first)) lines end wish ((world played).log ++ b.log) f.later found)
           × Says end wish found (reverse (world played).log) sink status) ⊎ Lacks sink status
       tells_so (inl (found, sought, says)) =
           let Q : Volume → Type 0 = λ x. IsSought (holds played) tells x (world played) end wish f.later found in
           let R : List Event → Type 0 = λ h. Says end wish found (reverse h) sink status in
-          inl (found, after (holds first) (holds played) (exact first) tells v (world first) lines end wish (world played) f.later found whole held (subst Q is_of sought), subst R f.log_is says)
+          inl (found, after (holds first) (holds played) tells v (world first) lines end wish (world played) f.later found whole held (subst Q is_of sought), subst R f.log_is says)
       tells_so (inr lacks) = inr lacks

@@ -11,9 +11,9 @@ use Rattle.rz_script.specs.Scripts.{Script}
 use Rattle.rz_script_words.specs.declared.form.Form.TheVariants as forms
 use Rattle.rz_play.specs.World.{World, new_world}
 use Rattle.rz_play.specs.Stops.{TurnsSpent}
-use Rattle.rz_play.specs.Free.{StopsLinesOver}
+use Rattle.rz_play.specs.Played.{StopsLinesOver}
 use Rattle.rz_play.specs.Played.{IsPlayed}
-use Rattle.rz_player.specs.Free.{IsEndedOver}
+use Rattle.rz_player.specs.Ends.{IsEndedOver}
 use Rattle.rz_player.specs.declared.lines.PlayEnd.TheVariants.{Ended, TooManyTurns, Journal, JournalFull}
 use Rattle.rz_show.specs.Text.{text_of}
 use Rattle.rz_request.specs.Input.{limit}

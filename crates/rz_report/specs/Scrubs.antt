@@ -7,7 +7,7 @@ use Rattle.rz_events.specs.declared.records.Held.{Held}
 use Rattle.rz_events.specs.declared.events.Event.{Event}
 use Rattle.rz_script.specs.declared.line.Line.{Line}
 use Rattle.rz_play.specs.World.{World, new_world}
-use Rattle.rz_play.specs.Free.{PlaysLinesOver}
+use Rattle.rz_play.specs.Played.{PlaysLinesOver}
 use Rattle.rz_player.specs.Behind.{Before, behind}
 use Rattle.rz_player.specs.Ends.{Carries}
 use Rattle.rz_player.specs.declared.lines.PlayEnd.{PlayEnd}
@@ -63,7 +63,7 @@ CarriesCounts before after = (b : Before) → before b → after b.counts
 -- A stage that can be scrubbed between two turns: it is a store of its volume with its export and its nodes, what is so of its disks
 -- goes with its log, and it keeps its log and its journal while records are asked for. Over disks that tell their texts the nodes of each published
 -- block give the projections of one block of words. What is so of the disks and the log is so behind each earlier log that is told.
-pub record IsScrubbable {S : Type 0} (tells : Bool) (volume : S → Volume) (world : S → World) (journaled exact : S → Bool) (is_ready : S → Type 0) (holds : S → Before → Type 0)
+pub record IsScrubbable {S : Type 0} (tells : Bool) (volume : S → Volume) (world : S → World) (journaled : S → Bool) (is_ready : S → Type 0) (holds : S → Before → Type 0)
     (described : S → Volume) (state : S → List Event → State) (is_open : S → Type 0) (gives : S → ℕ → Key → Held → List ℕ → List ℕ → Type 0)
     (counts : S → List Event → (ℕ → ℕ) → Type 0) (only_asked : S → S → Type 0) : Type 0 where
   pub described_is : (s : S) → described s ≡ volume s
@@ -73,7 +73,6 @@ pub record IsScrubbable {S : Type 0} (tells : Bool) (volume : S → Volume) (wor
   pub short : (s : S) (b : Before) → holds s b → length b.log < 2 ^ 63 + 512
   pub log_is : (s t : S) → only_asked s t → (world t).log ≡ (world s).log
   pub journal_is : (s t : S) → only_asked s t → journaled t ≡ journaled s
-  pub exact_is : (s t : S) → only_asked s t → exact t ≡ exact s
   pub whole : (s : S) (b : Before) → is_ready s → holds s b → IsTrue tells → length ((world s).log ++ b.log) < 2 ^ 64 - 1
       → EachListed (state s ((world s).log ++ b.log)).export (λ l. (g : Grid) × AreGiven (described s).layout (gives s) (state s ((world s).log ++ b.log)).nodes l g)
 
@@ -91,13 +90,12 @@ Leaves {S} world holds leaves counts only_asked end wish old new later =
     ⊎ ((played : S) × (wish ≡ Scrub) × Carries (holds old) (holds played) × only_asked played new × CarriesCounts (holds old) (counts new (later ++ (world new).log)))
 
 -- What came of a stage whose play ended so, and of the lines where there are some.
-pub record Finds {S : Type 0} (tells : Bool) (volume : S → Volume) (world : S → World) (journaled exact : S → Bool) (holds : S → Before → Type 0) (counts : S → List Event → (ℕ → ℕ) → Type 0) (only_asked : S → S → Type 0)
+pub record Finds {S : Type 0} (tells : Bool) (volume : S → Volume) (world : S → World) (journaled : S → Bool) (holds : S → Before → Type 0) (counts : S → List Event → (ℕ → ℕ) → Type 0) (only_asked : S → S → Type 0)
     (end : PlayEnd) (wish : Wish) (old new : S) (IfFound : (List ℕ → Type 0) → Type 0) : Type 0 where
   pub later : List Event
   pub may : MayAsk end wish later
   pub volume_is : volume new ≡ volume old
   pub log_is : (world new).log ≡ (world old).log
   pub journal_is : journaled new ≡ journaled old
-  pub exact_is : exact new ≡ exact old
   pub left : ((later ≡ []) × (new ≡ old)) ⊎ ((end ≡ Ended) × (wish ≡ Scrub) × only_asked old new × CarriesCounts (holds old) (counts new (later ++ (world old).log)))
   pub found : IfFound (IsSought (holds old) tells (volume old) (world old) end wish later)

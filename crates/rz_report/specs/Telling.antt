@@ -1,15 +1,16 @@
 -- What is told of a play.
-use Rattle.std.specs.Prelude.{ℕ, Bool, true, false, ◌≡◌, ◌⊎◌, ◌≤◌, ◌+◌, IsTrue, List, ◌++◌, reverse}
+use Rattle.std.specs.Prelude.{ℕ, Bool, true, false, ◌≡◌, ◌⊎◌, ◌≤◌, ◌+◌, IsTrue, List, [], ◌++◌, reverse}
 use Rattle.rz_events.specs.Volume.{Volume}
 use Rattle.rz_events.specs.declared.events.Event.{Event}
 use Rattle.rz_nodes.specs.declared.fault.DriverFault.{DriverFault}
 use Rattle.rz_nodes.specs.declared.fault.DriverFault.TheVariants as faults
 use Rattle.rz_script.specs.declared.line.Line.{Line}
-use Rattle.rz_play.specs.World.{World, new_world}
+use Rattle.rz_node_model.specs.States.{NodeState}
+use Rattle.rz_export_model.specs.Export.{Export}
+use Rattle.rz_play.specs.World.{World, new_world, world_after}
 use Rattle.rz_play.specs.Faults.{missed, misses}
 use Rattle.rz_player.specs.Behind.{Before, behind}
-use Rattle.rz_player.specs.Ends.{IsEnded}
-use Rattle.rz_player.specs.Free.{IsEndedOver}
+use Rattle.rz_player.specs.Ends.{IsEnded, IsEndedOver}
 use Rattle.rz_player.specs.declared.lines.PlayEnd.{PlayEnd}
 use Rattle.rz_player.specs.declared.lines.PlayEnd.TheVariants.{Ended, TooManyTurns, NoMemory, Journal, JournalFull}
 use Rattle.rz_show.specs.Text.{text_of}
@@ -56,35 +57,40 @@ Tells tells v lines end wish h later sink status =
     × (((found : List ℕ) × AreFound tells v lines end wish h later found × Says end wish found (reverse h) sink status) ⊎ Lacks sink status)
 
 -- A script was played to this end, with so many messages lost by the link, and told with its log, the newest event first. Over
--- disks that tell their texts the log is that of the script's play; over others it is that of a play in which a start may find
--- anything. Each lost message was lost by a line or by the link. After the play these records were asked for.
+-- disks that tell their texts the log is that of the script's play; over others it is that of a play in which a start and a read may
+-- find anything. Each lost message was lost by a line or by the link. After the play these records were asked for.
 abbrev pub Performs : Bool → Volume → List Line → Wish → PlayEnd → (later : List Event) → (lost : ℕ) → List Event → Sunk → ℕ → Type 0
 Performs tells v lines wish end later lost h sink status =
     (IsTrue tells → IsEnded v (new_world v) lines end lost h) × IsEndedOver tells v (new_world v) lines end lost h × (missed h ≤ misses lines + lost)
     × Tells tells v lines end wish h later sink status
-
--- A script that goes on after earlier runs was played to this end, and told with the log of this play.
-abbrev pub TellsOwn : PlayEnd → Wish → (later : List Event) → List Event → Sunk → ℕ → Type 0
-TellsOwn end wish later h sink status =
-    MayAsk end wish later × (((found : List ℕ) × Says end wish found (reverse h) sink status) ⊎ Lacks sink status)
-
--- a play that begins anew is performed; of one after earlier runs this says what is told of it
-abbrev pub PerformsAs : Bool → Volume → List Line → Wish → PlayEnd → (later : List Event) → (lost : ℕ) → List Event → Sunk → ℕ → Type 0
-PerformsAs tells v lines Again end later lost h sink status = TellsOwn end Again later h sink status
-PerformsAs tells v lines wish end later lost h sink status = Performs tells v lines wish end later lost h sink status
 
 -- A play from this world on has this whole log, and in its own part of that log each lost message was lost by a line or by the link.
 abbrev pub IsPlayOf : Bool → Volume → World → List Line → PlayEnd → (lost : ℕ) → (h log : List Event) → Type 0
 IsPlayOf tells v first lines end lost h log =
     (IsTrue tells → IsEnded v first lines end lost h) × IsEndedOver tells v first lines end lost h × (missed log ≤ misses lines + lost)
 
--- A script was played in this world, maybe after earlier runs, and told with the log of this play. Where the texts that reads find
--- are exact, the play goes on behind each earlier log that these hold for, and so do the lines of a scrub.
-abbrev pub PerformsBehind : (holds : Before → Type 0) → (exact : Bool) → Bool → Volume → World → List Line → Wish → PlayEnd → (later : List Event) → (lost : ℕ) → List Event → Sunk → ℕ → Type 0
-PerformsBehind holds exact tells v w lines wish end later lost log sink status =
+-- A play after earlier runs, over disks that do not tell their texts: nothing is known of those runs, so it began with nodes and an
+-- export in any state. From there on its log is that of the script, in which a start and a read may find anything.
+abbrev pub IsPlayAgain : Bool → Volume → List Line → PlayEnd → (lost : ℕ) → List Event → Type 0
+IsPlayAgain tells v lines end lost h = tells ≡ false → (nodes : ℕ → NodeState) × (export : Export) × IsPlayOf tells v (world_after nodes export []) lines end lost h h
+
+-- a script that goes on after earlier runs was played to this end, and told with the log of this play
+abbrev pub TellsOwn : PlayEnd → Wish → (later : List Event) → List Event → Sunk → ℕ → Type 0
+TellsOwn end wish later h sink status =
+    MayAsk end wish later × (((found : List ℕ) × Says end wish found (reverse h) sink status) ⊎ Lacks sink status)
+
+-- a play that begins anew is performed; of one after earlier runs this says what is told of it
+abbrev pub PerformsAs : Bool → Volume → List Line → Wish → PlayEnd → (later : List Event) → (lost : ℕ) → List Event → Sunk → ℕ → Type 0
+PerformsAs tells v lines Again end later lost h sink status = IsPlayAgain tells v lines end lost h × TellsOwn end Again later h sink status
+PerformsAs tells v lines wish end later lost h sink status = Performs tells v lines wish end later lost h sink status
+
+-- A script was played in this world, maybe after earlier runs, and told with the log of this play. The play goes on behind each
+-- earlier log that these hold for, and so do the lines of a scrub.
+abbrev pub PerformsBehind : (holds : Before → Type 0) → Bool → Volume → World → List Line → Wish → PlayEnd → (later : List Event) → (lost : ℕ) → List Event → Sunk → ℕ → Type 0
+PerformsBehind holds tells v w lines wish end later lost log sink status =
     MayAsk end wish later
-    × ((b : Before) → holds b → exact ≡ true → IsPlayOf tells v (behind b.log w) lines end lost (log ++ b.log) log)
-    × (((found : List ℕ) × ((b : Before) → holds b → exact ≡ true → AreFoundFrom tells v (behind b.log w) lines end wish (log ++ b.log) later found)
+    × ((b : Before) → holds b → IsPlayOf tells v (behind b.log w) lines end lost (log ++ b.log) log)
+    × (((found : List ℕ) × ((b : Before) → holds b → AreFoundFrom tells v (behind b.log w) lines end wish (log ++ b.log) later found)
     × Says end wish found (reverse log) sink status) ⊎ Lacks sink status)
 
 -- the line of a refusal was to be written with its status, or there was no memory

@@ -14,8 +14,7 @@ use Rattle.rz_play.specs.Played.{IsBegunFrom}
 use Rattle.rz_play.specs.Faults.{missed, misses}
 use Rattle.rz_play_laws.specs.Runs.{IsScript}
 use Rattle.rz_play_locks.specs.Kept.{NoUpdateLost, AreViewsWhole}
-use Rattle.rz_player.specs.Ends.{IsEnded}
-use Rattle.rz_player.specs.Free.{IsEndedOver}
+use Rattle.rz_player.specs.Ends.{IsEnded, IsEndedOver}
 use Rattle.rz_player.specs.declared.lines.PlayEnd.{PlayEnd}
 
 -- The log of a play of these lines, in which the link lost at most so many messages. Each event is allowed after those before it.

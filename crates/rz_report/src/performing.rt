@@ -40,13 +40,12 @@ pub fn perform<S: LoggedStage + ScrubbedStore, L: Link, O: Sink>(
     requires volume { S.volume stage.old ≡ script.now.volume }
     requires rules { IsVolume script.now.volume }
     requires new { (nodes : ℕ → NodeState) × (export : Export) × (S.world stage.old ≡ world_after nodes export []) }
-    requires stage { IsScrubbable S.tells S.volume S.world S.journaled S.exact S.is_ready S.holds S.described S.state S.is_open S.gives S.counts S.only_asked }
+    requires stage { IsScrubbable S.tells S.volume S.world S.journaled S.is_ready S.holds S.described S.state S.is_open S.gives S.counts S.only_asked }
     ensures volume { S.volume stage.new ≡ S.volume stage.old }
     ensures journal { S.journaled stage.new ≡ S.journaled stage.old }
-    ensures exact { S.exact stage.new ≡ S.exact stage.old }
     ensures performed { (end : PlayEnd) × (later : List Event) × Leaves S.world S.holds S.leaves S.counts S.only_asked end wish stage.old stage.new later
         × EndsBy (S.journaled stage.old) (S.cut_off stage.new) end
-        × PerformsBehind (S.holds stage.old) (S.exact stage.old) S.tells script.now.volume (S.world stage.old) script.now.lines wish end later (L.lost link.new - L.lost link.old) (S.world stage.new).log (record { before = O.taken output.old; after = O.taken output.new; old = O.faults output.old; new = O.faults output.new }) result }
+        × PerformsBehind (S.holds stage.old) S.tells script.now.volume (S.world stage.old) script.now.lines wish end later (L.lost link.new - L.lost link.old) (S.world stage.new).log (record { before = O.taken output.old; after = O.taken output.new; old = O.faults output.old; new = O.faults output.new }) result }
     ensures told { (b : Before) → S.holds stage.old b → b.log ≡ [] → S.world stage.old ≡ new_world script.now.volume → IsTrue S.tells → IsTold script.now.volume script.now.lines (L.lost link.new - L.lost link.old) (S.world stage.new).log }
 {
     true_logs();

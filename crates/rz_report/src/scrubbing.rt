@@ -26,8 +26,8 @@ pub(crate) fn find<S: LoggedStage + ScrubbedStore>(
     stage: &mut S,
 ) -> Result<Vec<u8>, AllocError>
     requires ready { end ≡ Ended → S.is_ready stage.old }
-    requires stage { IsScrubbable S.tells S.volume S.world S.journaled S.exact S.is_ready S.holds S.described S.state S.is_open S.gives S.counts S.only_asked }
-    ensures { Finds S.tells S.volume S.world S.journaled S.exact S.holds S.counts S.only_asked end wish stage.old stage.new (λ p. IfOk result (λ lines. p lines.items)) }
+    requires stage { IsScrubbable S.tells S.volume S.world S.journaled S.is_ready S.holds S.described S.state S.is_open S.gives S.counts S.only_asked }
+    ensures { Finds S.tells S.volume S.world S.journaled S.holds S.counts S.only_asked end wish stage.old stage.new (λ p. IfOk result (λ lines. p lines.items)) }
 {
     match wish {
         Wish::Replay | Wish::First => Ok(Vec::new(alloc)),

@@ -57,8 +57,7 @@ returns-in-Ok-open_all-clause-opened g c =
       locks = c.new-locks.ensures;
       turns = refl;
       lost = refl;
-      events = c.after_earlier-log.ensures.events;
-      earlier = c.after_earlier-log.ensures.earlier;
+      events = c.new-log.ensures;
     }
 
 pub returns-in-Err-clause-refused : goal.returns-in-Err-clause-refused

@@ -138,7 +138,7 @@ returns-in-Node-clause-pictured g c =
 pub returns-in_ok-done-in-Say-clause-pictured : goal.returns-in_ok-done-in-Say-clause-pictured
 returns-in_ok-done-in-Say-clause-pictured g c = λ told.
     let p = c.args.shared.now in
-    say-keeps g.D.Disk.image c.args.by p.servers.items c.longer.ensures c.told.ensures c.args.agenda.now.machine c.in-Some.machine c.say.new.machine c.in-Some.is p.log.events c.say.new.log.events p.log.earlier c.args.agenda.now.number c.in_ok-done-in-Say.done c.in_ok-done-in-Say.ensures.ok
+    say-keeps g.D.Disk.image c.args.by p.servers.items c.longer.ensures c.told.ensures c.args.agenda.now.machine c.in-Some.machine c.say.new.machine c.in-Some.is p.log.events c.say.new.log.events c.args.agenda.now.number c.in_ok-done-in-Say.done c.in_ok-done-in-Say.ensures.ok
 
 pub returns-in-Export-clause-spared : goal.returns-in-Export-clause-spared
 returns-in-Export-clause-spared g c =
@@ -233,7 +233,7 @@ pub returns-in_ok-done-in-Say-clause-kept : goal.returns-in_ok-done-in-Say-claus
 returns-in_ok-done-in-Say-clause-kept g c =
     let p = c.args.shared.now in
     AsksNothing refl
-    (said-stays-export p.log.earlier c.args.by c.args.agenda.now.number c.in_ok-done-in-Say.done c.in-Some.machine c.say.new.machine p.log.events c.say.new.log.events c.in_ok-done-in-Say.ensures.ok)
+    (said-stays-export c.args.by c.args.agenda.now.number c.in_ok-done-in-Say.done c.in-Some.machine c.say.new.machine p.log.events c.say.new.log.events c.in_ok-done-in-Say.ensures.ok)
 
 pub returns-in-Export-clause-ended : goal.returns-in-Export-clause-ended
 returns-in-Export-clause-ended g c = c.ask_export.ensures.left

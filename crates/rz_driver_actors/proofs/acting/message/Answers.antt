@@ -1,6 +1,5 @@
 use Rattle.std.proofs.Common.{◌≡◌, ℕ, IsTrue, Some, refl, sym, subst}
 use Rattle.std.specs.Prelude.{slice_set}
-use Rattle.std.proofs.Math.Nat.{le_refl}
 use Rattle.std.proofs.lemmas.Result.{on_ok_weaker, on_err_weaker}
 use Rattle.rz_nodes.specs.declared.formatting.Server.{Server}
 use Rattle.rz_driver_actors.specs.Acts.{Through, ReplyLost, RequestLost}
@@ -74,8 +73,8 @@ returns-in_ok-without_reply-in-ReplyLost-clause-ok g c =
       locks = refl;
     }
 
-pub returns-in_ok-without_request-in-RequestLost-clause-ok : goal.returns-in_ok-without_request-in-RequestLost-clause-ok
-returns-in_ok-without_request-in-RequestLost-clause-ok g c =
+pub returns-in-RequestLost-clause-ok : goal.returns-in-RequestLost-clause-ok
+returns-in-RequestLost-clause-ok g c =
     let s = c.index_mut.result.now in
     let there = read-at c.args.shared.now.servers.items c.as_slice.result.now c.args.number c.in-Some.place s c.as_slice.ensures.value c.in-Some.ensures c.index_mut.ensures.value in
     record {
@@ -86,7 +85,7 @@ returns-in_ok-without_request-in-RequestLost-clause-ok g c =
       is = there.1;
       called = record { sid = refl; pick = refl; geometry = refl };
       servers = refl;
-      fate = RequestLost refl c.in_ok-without_request-in-RequestLost.ensures.ok (loses-request c.goes_by_link.result c.args.ask c.goes_by_link.ensures c.args.miss.now c.in-RequestLost.ensures.fared.said c.in-RequestLost.ensures.fared.fate) refl c.in-Some-lost_after.ensures.1;
+      fate = RequestLost refl c.without_request.ensures (loses-request c.goes_by_link.result c.args.ask c.goes_by_link.ensures c.args.miss.now c.in-RequestLost.ensures.fared.said c.in-RequestLost.ensures.fared.fate) refl c.in-Some-lost_after.ensures.1;
       export = refl;
       locks = refl;
     }
@@ -108,10 +107,10 @@ returns-in_ok-without_reply-in-ReplyLost-clause-sent g c =
     sent-as c.goes_by_link.result c.args.ask c.goes_by_link.ensures g.L.Link.says c.args.miss.now c.args.by c.args.number c.args.link.now c.fate.new.link c.args.shared.now.log.events c.without_reply.new.log.events sent.ReplyLost c.in-ReplyLost.ensures.fared
     (part.event, (part.given, part.event_is), part.noted)
 
-pub returns-in_ok-without_request-in-RequestLost-clause-sent : goal.returns-in_ok-without_request-in-RequestLost-clause-sent
-returns-in_ok-without_request-in-RequestLost-clause-sent g c =
+pub returns-in-RequestLost-clause-sent : goal.returns-in-RequestLost-clause-sent
+returns-in-RequestLost-clause-sent g c =
     sent-as c.goes_by_link.result c.args.ask c.goes_by_link.ensures g.L.Link.says c.args.miss.now c.args.by c.args.number c.args.link.now c.fate.new.link c.args.shared.now.log.events c.without_request.new.log.events sent.RequestLost c.in-RequestLost.ensures.fared
-    c.in_ok-without_request-in-RequestLost.ensures.ok.noted
+    c.without_request.ensures.noted
 
 -- The words beside the meters.
 
@@ -149,15 +148,15 @@ returns-in_ok-without_reply-in-ReplyLost-clause-held g c = λ numbers first met.
     metered-step meter first numbers row c.in-Some.place s (record { sid = s.sid; node = c.without_reply.new.node; pick = s.pick }) h c.without_reply.new.log.events there.1 refl
     (subst (λ (n : ℕ). GoesOn meter n s.node c.without_reply.new.node h c.without_reply.new.log.events) (sym named) c.in_ok-without_reply-in-ReplyLost.ensures.metered) met
 
-pub returns-in_ok-without_request-in-RequestLost-clause-held : goal.returns-in_ok-without_request-in-RequestLost-clause-held
-returns-in_ok-without_request-in-RequestLost-clause-held g c = λ numbers first met.
+pub returns-in-RequestLost-clause-held : goal.returns-in-RequestLost-clause-held
+returns-in-RequestLost-clause-held g c = λ numbers first met.
     let meter = g.D.Disk.meter in
     let row = c.args.shared.now.servers.items in
     let h = c.args.shared.now.log.events in
     let s = c.index_mut.result.now in
     let there = read-at row c.as_slice.result.now c.args.number c.in-Some.place s c.as_slice.ensures.value c.in-Some.ensures c.index_mut.ensures.value in
     metered-step meter first numbers row c.in-Some.place s (record { sid = s.sid; node = s.node; pick = s.pick }) h c.without_request.new.log.events there.1 refl
-    (unheard-goes meter s.sid s.node c.args.by c.args.number h c.without_request.new.log.events c.in_ok-without_request-in-RequestLost.ensures.ok.noted) met
+    (unheard-goes meter s.sid s.node c.args.by c.args.number h c.without_request.new.log.events c.without_request.ensures.noted) met
 
 pub returns-in_default-clause-left : goal.returns-in_default-clause-left
 returns-in_default-clause-left g c = λ numbers first met. metered-counts g.D.Disk.meter first numbers c.args.shared.now.servers.items c.args.shared.now.log.events met
@@ -173,15 +172,6 @@ returns-in_err-without_reply-in-ReplyLost-clause-left g c =
     let there = read-at row c.as_slice.result.now c.args.number c.in-Some.place s c.as_slice.ensures.value c.in-Some.ensures c.index_mut.ensures.value in
     order-err c.from_residual.result g.D.Disk.meter row c.in-Some.place s (record { sid = s.sid; node = c.without_reply.new.node; pick = s.pick }) h c.without_reply.new.log.events there.1 refl
     c.without_reply.ensures.counted c.in_err-without_reply-in-ReplyLost.ensures.err
-
-pub returns-in_err-without_request-in-RequestLost-clause-left : goal.returns-in_err-without_request-in-RequestLost-clause-left
-returns-in_err-without_request-in-RequestLost-clause-left g c =
-    let row = c.args.shared.now.servers.items in
-    let h = c.args.shared.now.log.events in
-    let s = c.index_mut.result.now in
-    let there = read-at row c.as_slice.result.now c.args.number c.in-Some.place s c.as_slice.ensures.value c.in-Some.ensures c.index_mut.ensures.value in
-    order-err c.from_residual-in_err-without_request-in-RequestLost.result g.D.Disk.meter row c.in-Some.place s (record { sid = s.sid; node = s.node; pick = s.pick }) h c.without_request.new.log.events there.1 refl
-    (le_refl (g.D.Disk.meter s.node.disk).own) c.in_err-without_request-in-RequestLost.ensures.err
 
 -- Beside the log.
 
@@ -237,25 +227,13 @@ returns-in_err-without_reply-in-ReplyLost-clause-spared g c =
     let P : Type 0 = IsTrue g.D.Disk.tells → SparesPicture image c.args.by (Some m) row h (slice_set row c.in-Some.place after) in
     on-err {P = P} c.from_residual.result (λ told. node-spares image c.args.by row m h c.args.number c.in-Some.place s after named there.1 refl (c.in_err-without_reply-in-ReplyLost.ensures.spared told))
 
-pub returns-in_ok-without_request-in-RequestLost-clause-pictured : goal.returns-in_ok-without_request-in-RequestLost-clause-pictured
-returns-in_ok-without_request-in-RequestLost-clause-pictured g c = λ told.
+pub returns-in-RequestLost-clause-pictured : goal.returns-in-RequestLost-clause-pictured
+returns-in-RequestLost-clause-pictured g c = λ told.
     let row = c.args.shared.now.servers.items in
     let s = c.index_mut.result.now in
     let there = read-at row c.as_slice.result.now c.args.number c.in-Some.place s c.as_slice.ensures.value c.in-Some.ensures c.index_mut.ensures.value in
     unheard-keeps g.D.Disk.image c.args.by row c.longer.ensures c.told.ensures c.args.machine.now c.without_request.new.machine c.args.shared.now.log.events c.without_request.new.log.events c.args.number c.args.ask c.in-Some.place s there.1 c.requires.asked
-    (lost-by-link c.args.miss.now c.args.ask _ (loses-request c.goes_by_link.result c.args.ask c.goes_by_link.ensures c.args.miss.now c.in-RequestLost.ensures.fared.said c.in-RequestLost.ensures.fared.fate)) c.in_ok-without_request-in-RequestLost.ensures.ok
-
-pub returns-in_err-without_request-in-RequestLost-clause-spared : goal.returns-in_err-without_request-in-RequestLost-clause-spared
-returns-in_err-without_request-in-RequestLost-clause-spared g c =
-    let image = g.D.Disk.image in
-    let row = c.args.shared.now.servers.items in
-    let h = c.args.shared.now.log.events in
-    let m = c.args.machine.now in
-    let s = c.index_mut.result.now in
-    let there = read-at row c.as_slice.result.now c.args.number c.in-Some.place s c.as_slice.ensures.value c.in-Some.ensures c.index_mut.ensures.value in
-    let named = sid-at row c.args.number c.in-Some.place s there.0 there.1 in
-    let P : Type 0 = IsTrue g.D.Disk.tells → SparesPicture image c.args.by (Some m) row h (slice_set row c.in-Some.place s) in
-    on-err {P = P} c.from_residual-in_err-without_request-in-RequestLost.result (λ told. node-spares image c.args.by row m h c.args.number c.in-Some.place s s named there.1 refl (λ v old actor has. (has, refl)))
+    (lost-by-link c.args.miss.now c.args.ask _ (loses-request c.goes_by_link.result c.args.ask c.goes_by_link.ensures c.args.miss.now c.in-RequestLost.ensures.fared.said c.in-RequestLost.ensures.fared.fate)) c.without_request.ensures
 
 pub returns-in_default-clause-spared : goal.returns-in_default-clause-spared
 returns-in_default-clause-spared g c = λ told. still-spares g.D.Disk.image c.args.by c.args.shared.now.servers.items (Some c.args.machine.now) c.args.shared.now.log.events

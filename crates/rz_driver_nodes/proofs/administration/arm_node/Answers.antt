@@ -1,10 +1,7 @@
 use Rattle.std.proofs.Common.{◌≡◌, ℕ, List, [], ◌∷◌, Some, ◌<◌, ◌∙◌, get_or, length, refl, sym, ap, rules}
-use Rattle.std.specs.Prelude.{◌≢◌, None}
 use Rattle.std.proofs.lemmas.Option.{slice_get-get_or}
-use Rattle.std.proofs.lemmas.Result.{on_ok_weaker, on_err_weaker}
 use Rattle.rz_events.specs.declared.events.Event.{Event}
 use Rattle.rz_events.specs.declared.events.Event.TheVariants as e
-use Rattle.rz_log.specs.Logged.{stamp_begun}
 use Rattle.rz_driver_nodes.proofs.MeterLemmas.{metered-counts, still-err, order-held, order-left, sid-at}
 use Rattle.rz_driver_nodes.proofs.Rows.{at-within}
 use Rattle.rz_driver_nodes.proofs.OrderPictures.{row-keeps, still-row}
@@ -20,7 +17,7 @@ bounds-servers-place g c = at-within c.args.servers.now c.args.sid c.in-Some.pla
 pub returns-clause-ok : goal.returns-clause-ok
 returns-clause-ok g c =
     let low = at-within c.args.servers.now c.args.sid c.in-Some.place c.in-Some.ensures in
-    on_ok_weaker c.note.result (λ (h : c.note.new.self.events ≡ e.Armed c.args.sid c.args.passes c.args.pick ∷ c.make_room.new.self.events). record {
+    let h : c.note.new.self.events ≡ e.Armed c.args.sid c.args.passes c.args.pick ∷ c.make_room.new.self.events = c.note.ensures.noted in (record {
       place = c.in-Some.place;
       server = get_or c.args.servers.now c.in-Some.place c.index-servers-place.result;
       after = c.arm.new.server;
@@ -29,7 +26,7 @@ returns-clause-ok g c =
       servers = refl;
       armed = c.arm.ensures.armed;
       log_is = h ∙ ap (λ (rest : List Event). e.Armed c.args.sid c.args.passes c.args.pick ∷ rest) c.make_room.ensures.same;
-    }) c.note.ensures.ok
+    })
 
 pub returns-clause-held : goal.returns-clause-held
 returns-clause-held g c =
@@ -38,19 +35,10 @@ returns-clause-held g c =
     let s = get_or row c.in-Some.place c.index-servers-place.result in
     let at = slice_get-get_or row c.in-Some.place c.index-servers-place.result low in
     let named = sid-at row c.args.sid c.in-Some.place s c.in-Some.ensures at in
-    on_ok_weaker c.note.result (λ (h : c.note.new.self.events ≡ e.Armed c.args.sid c.args.passes c.args.pick ∷ c.make_room.new.self.events). λ numbers first met.
+    let h : c.note.new.self.events ≡ e.Armed c.args.sid c.args.passes c.args.pick ∷ c.make_room.new.self.events = c.note.ensures.noted in (λ numbers first met.
     let log_is = h ∙ ap (λ (rest : List Event). e.Armed c.args.sid c.args.passes c.args.pick ∷ rest) c.make_room.ensures.same
     ∙ ap (λ (n : ℕ). e.Armed n c.args.passes c.args.pick ∷ c.args.log.now.events) (sym named) in
-    order-held g.D.Disk.meter first numbers row c.in-Some.place s c.arm.new.server (Some (e.Armed s.sid c.args.passes c.args.pick)) c.args.log.now.events c.note.new.self.events at c.arm.ensures.armed.sid c.arm.ensures.metered log_is met) c.note.ensures.ok
-
-pub returns-clause-left : goal.returns-clause-left
-returns-clause-left g c =
-    let row = c.args.servers.now in
-    let low = at-within row c.args.sid c.in-Some.place c.in-Some.ensures in
-    let s = get_or row c.in-Some.place c.index-servers-place.result in
-    let at = slice_get-get_or row c.in-Some.place c.index-servers-place.result low in
-    on_err_weaker c.note.result (λ (h : c.note.new.self.events ≡ c.make_room.new.self.events). λ numbers first met.
-    order-left g.D.Disk.meter first numbers row c.in-Some.place s c.arm.new.server c.args.log.now.events c.note.new.self.events at c.arm.ensures.armed.sid c.arm.ensures.counted (h ∙ c.make_room.ensures.same) met) c.note.ensures.err
+    order-held g.D.Disk.meter first numbers row c.in-Some.place s c.arm.new.server (Some (e.Armed s.sid c.args.passes c.args.pick)) c.args.log.now.events c.note.new.self.events at c.arm.ensures.armed.sid c.arm.ensures.metered log_is met)
 
 pub returns-in_default-clause-left : goal.returns-in_default-clause-left
 returns-in_default-clause-left g c = λ numbers first met. metered-counts g.D.Disk.meter first numbers c.args.servers.now c.args.log.now.events met
@@ -67,12 +55,9 @@ returns-clause-pictured g c =
     let s = get_or row c.in-Some.place c.index-servers-place.result in
     let at = slice_get-get_or row c.in-Some.place c.index-servers-place.result low in
     let x : Event = e.Armed c.args.sid c.args.passes c.args.pick in
-    on_ok_weaker c.note.result (λ (h : c.note.new.self.events ≡ x ∷ c.make_room.new.self.events). λ told.
+    let h : c.note.new.self.events ≡ x ∷ c.make_room.new.self.events = c.note.ensures.noted in (λ told.
     row-keeps g.D.Disk.image row c.in-Some.place s c.arm.new.server at (c.arm.ensures.images told) c.args.log.now.events c.longer.ensures c.note.new.self.events
-    (x ∷ [], h ∙ ap (λ (rest : List Event). x ∷ rest) c.make_room.ensures.same)) c.note.ensures.ok
-
-pub returns-clause-spared : goal.returns-clause-spared
-returns-clause-spared g c = on_err_weaker c.note.result (λ (begins : stamp_begun (e.Armed c.args.sid c.args.passes c.args.pick) ≢ None). absurd (begins refl)) c.note.ensures.begins
+    (x ∷ [], h ∙ ap (λ (rest : List Event). x ∷ rest) c.make_room.ensures.same))
 
 pub returns-in_default-clause-spared : goal.returns-in_default-clause-spared
 returns-in_default-clause-spared g c = λ told. still-row g.D.Disk.image c.args.servers.now c.args.log.now.events

@@ -8,7 +8,7 @@ use Rattle.rz_disk.specs.Meter.{Meter, armed}
 use Rattle.rz_cells_slots.specs.Opening.{opening_calls}
 use Rattle.rz_events.specs.declared.nodes.Phase.TheVariants.{Down}
 use Rattle.rz_node.specs.Opens.{Opens, IfStarted, UnlessStarted, IfUnopened}
-use Rattle.rz_play.specs.Lines.{IsTold, noted}
+use Rattle.rz_play.specs.Lines.{IsStartedAs, IsTold, noted}
 use Rattle.rz_driver_nodes.specs.Meters.{GoesOn}
 use Rattle.rz_driver_nodes.proofs.MeterLemmas.{armed-own, armed-there, start-down, start-still, start-lasts}
 use Rattle.std.specs.Prelude.{ℕ, Bool, IsTrue, Option}
@@ -56,15 +56,23 @@ order-of old mid n given event first kept is told after noted = record {
   called = disarmed-first old mid n first kept;
 }
 
+-- what it holds is free where it started
+started-as : (a : StartAnswer) (s s' : NodeState) → IfStarted a (s' ≡ opened s.losses s'.fence s'.held) → UnlessStarted a (s' ≡ s) → IsStartedAs (answer.Start a) s s'
+started-as (start.Started took) s s' started unstarted = started
+started-as start.NotDown s s' started unstarted = unstarted
+started-as start.NoMemory s s' started unstarted = unstarted
+started-as (start.Unopened cause) s s' started unstarted = unstarted
+
 free-order : {D : Type 0} (old mid : Server D) (n : NodeView D) (given : StartAnswer) (event : Option Event) → IsArmed old.pick old mid → n.geometry ≡ mid.node.geometry
     → IsNodeAnswer mid.node.geometry.cells mid.node.state ask.Start (answer.Start given) → (given ≡ start.NoMemory → ⊥)
-    → event ≡ node_event Admin mid.sid ask.Start (answer.Start given)
+    → IsStartedAs (answer.Start given) old.node.state n.state → event ≡ node_event Admin mid.sid ask.Start (answer.Start given)
     → IsFreeOrder old (record { sid = mid.sid; node = n; pick = mid.pick }) event
-free-order old mid n given event first kept is answered noted = record {
+free-order old mid n given event first kept is answered started noted = record {
   given = answer.Start given;
   given_is = subst (λ (s : NodeState). IsNodeAnswer old.node.geometry.cells s ask.Start (answer.Start given)) first.state
       (subst (λ (k : Geometry). IsNodeAnswer k.cells mid.node.state ask.Start (answer.Start given)) first.geometry is);
   answered = λ same. answered (the-start given same);
+  started = started;
   event_is = noted ∙ ap (λ (n : ℕ). node_event Admin n ask.Start (answer.Start given)) first.sid;
   called = disarmed-first old mid n first kept;
 }
@@ -114,7 +122,7 @@ returns-in_default g c =
     in
     record {
       called = disarmed-first old mid new first c.start.ensures.geometry;
-      started = free-order old mid new given c.node_event.result first c.start.ensures.geometry c.start.ensures.answer c.in_default.not-NoMemory c.node_event.ensures;
+      started = free-order old mid new given c.node_event.result first c.start.ensures.geometry c.start.ensures.answer c.in_default.not-NoMemory (started-as given old.node.state new.state started unstarted) c.node_event.ensures;
       ok = λ told. order-of old mid new given c.node_event.result first c.start.ensures.geometry c.start.ensures.answer
           (start-told given c.in_default.not-NoMemory (exact-told g.D.Disk.tells given told c.start.ensures.exact)) (c.start.ensures.after told) c.node_event.ensures;
       crashed = λ down. elim c.if-eq.branch [

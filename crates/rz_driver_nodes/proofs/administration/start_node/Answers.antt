@@ -1,14 +1,11 @@
 use Rattle.std.proofs.Common.{◌≡◌, ◌<◌, ◌∙◌, IsTrue, get_or, inl, inr, length, refl, ap, rules}
-use Rattle.std.specs.Prelude.{◌≢◌, IsSomeAnd, None}
 use Rattle.std.proofs.lemmas.Option.{slice_get-get_or}
-use Rattle.std.proofs.lemmas.Result.{on_ok_weaker, on_err_weaker}
 use Rattle.rz_events.specs.declared.nodes.NodeAsk.TheVariants as ask
 use Rattle.rz_events.specs.declared.events.Event.{Event}
-use Rattle.rz_log.specs.Logged.{stamp_begun}
 use Rattle.rz_play.specs.Lines.{noted}
 use Rattle.rz_driver_nodes.proofs.MeterLemmas.{metered-counts, still-err, order-err, order-held, order-left}
 use Rattle.rz_driver_nodes.proofs.Rows.{at-within}
-use Rattle.rz_driver_nodes.proofs.OrderPictures.{order-quiet, row-keeps, row-spares, still-row}
+use Rattle.rz_driver_nodes.proofs.OrderPictures.{row-keeps, row-spares, still-row}
 use Rattle.rz_driver_nodes.proofs.PictureLemmas.{noted-grows, on-err}
 use Rattle.rz_driver_nodes.proofs.administration.start_node.Goals as goal
 
@@ -21,7 +18,7 @@ bounds-servers-place g c = at-within c.args.servers.now c.args.sid c.in-Some.pla
 pub returns-clause-ok : goal.returns-clause-ok
 returns-clause-ok g c =
     let low = at-within c.args.servers.now c.args.sid c.in-Some.place c.in-Some.ensures in
-    on_ok_weaker c.note.result (λ (h : c.note.new.log.events ≡ noted c.in_ok-event.event c.make_room.new.self.events). λ (told : IsTrue g.D.Disk.tells). record {
+    let h : c.note.new.log.events ≡ noted c.in_ok-event.event c.make_room.new.self.events = c.note.ensures in (λ (told : IsTrue g.D.Disk.tells). record {
       place = c.in-Some.place;
       server = get_or c.args.servers.now c.in-Some.place c.index-servers-place.result;
       after = c.start.new.server;
@@ -31,12 +28,12 @@ returns-clause-ok g c =
       servers = refl;
       order = c.in_ok-event.ensures.ok told;
       log_is = h ∙ ap (noted c.in_ok-event.event) c.make_room.ensures.same;
-    }) c.note.ensures.ok
+    })
 
 pub returns-clause-started : goal.returns-clause-started
 returns-clause-started g c =
     let low = at-within c.args.servers.now c.args.sid c.in-Some.place c.in-Some.ensures in
-    on_ok_weaker c.note.result (λ (h : c.note.new.log.events ≡ noted c.in_ok-event.event c.make_room.new.self.events). record {
+    let h : c.note.new.log.events ≡ noted c.in_ok-event.event c.make_room.new.self.events = c.note.ensures in (record {
       place = c.in-Some.place;
       server = get_or c.args.servers.now c.in-Some.place c.index-servers-place.result;
       after = c.start.new.server;
@@ -46,12 +43,12 @@ returns-clause-started g c =
       servers = refl;
       order = c.in_ok-event.ensures.started;
       log_is = h ∙ ap (noted c.in_ok-event.event) c.make_room.ensures.same;
-    }) c.note.ensures.ok
+    })
 
 pub returns-clause-called : goal.returns-clause-called
 returns-clause-called g c =
     let low = at-within c.args.servers.now c.args.sid c.in-Some.place c.in-Some.ensures in
-    on_ok_weaker c.note.result (λ (h : c.note.new.log.events ≡ noted c.in_ok-event.event c.make_room.new.self.events). record {
+    let h : c.note.new.log.events ≡ noted c.in_ok-event.event c.make_room.new.self.events = c.note.ensures in (record {
       place = c.in-Some.place;
       server = get_or c.args.servers.now c.in-Some.place c.index-servers-place.result;
       after = c.start.new.server;
@@ -59,12 +56,12 @@ returns-clause-called g c =
       is = slice_get-get_or c.args.servers.now c.in-Some.place c.index-servers-place.result low;
       servers = refl;
       called = c.start.ensures.called;
-    }) c.note.ensures.ok
+    })
 
 pub returns-clause-crashed : goal.returns-clause-crashed
 returns-clause-crashed g c =
     let low = at-within c.args.servers.now c.args.sid c.in-Some.place c.in-Some.ensures in
-    on_ok_weaker c.note.result (λ (h : c.note.new.log.events ≡ noted c.in_ok-event.event c.make_room.new.self.events). record {
+    let h : c.note.new.log.events ≡ noted c.in_ok-event.event c.make_room.new.self.events = c.note.ensures in (record {
       place = c.in-Some.place;
       server = get_or c.args.servers.now c.in-Some.place c.index-servers-place.result;
       after = c.start.new.server;
@@ -72,20 +69,7 @@ returns-clause-crashed g c =
       is = slice_get-get_or c.args.servers.now c.in-Some.place c.index-servers-place.result low;
       servers = refl;
       crashed = c.start.ensures.crashed;
-    }) c.note.ensures.ok
-
-pub returns-clause-stayed : goal.returns-clause-stayed
-returns-clause-stayed g c =
-    let low = at-within c.args.servers.now c.args.sid c.in-Some.place c.in-Some.ensures in
-    on-err c.note.result (inr (record {
-      place = c.in-Some.place;
-      server = get_or c.args.servers.now c.in-Some.place c.index-servers-place.result;
-      after = c.start.new.server;
-      at = c.in-Some.ensures;
-      is = slice_get-get_or c.args.servers.now c.in-Some.place c.index-servers-place.result low;
-      servers = refl;
-      crashed = c.start.ensures.crashed;
-    }))
+    })
 
 pub returns-in_default-clause-stayed : goal.returns-in_default-clause-stayed
 returns-in_default-clause-stayed g c = inl refl
@@ -112,17 +96,8 @@ returns-clause-held g c =
     let low = at-within row c.args.sid c.in-Some.place c.in-Some.ensures in
     let s = get_or row c.in-Some.place c.index-servers-place.result in
     let at = slice_get-get_or row c.in-Some.place c.index-servers-place.result low in
-    on_ok_weaker c.note.result (λ (h : c.note.new.log.events ≡ noted c.in_ok-event.event c.make_room.new.self.events). λ numbers first met.
-    order-held g.D.Disk.meter first numbers row c.in-Some.place s c.start.new.server c.in_ok-event.event c.args.log.now.events c.note.new.log.events at c.start.ensures.called.sid c.in_ok-event.ensures.metered (h ∙ ap (noted c.in_ok-event.event) c.make_room.ensures.same) met) c.note.ensures.ok
-
-pub returns-clause-left : goal.returns-clause-left
-returns-clause-left g c =
-    let row = c.args.servers.now in
-    let low = at-within row c.args.sid c.in-Some.place c.in-Some.ensures in
-    let s = get_or row c.in-Some.place c.index-servers-place.result in
-    let at = slice_get-get_or row c.in-Some.place c.index-servers-place.result low in
-    on_err_weaker c.note.result (λ (h : c.note.new.log.events ≡ c.make_room.new.self.events). λ numbers first met.
-    order-left g.D.Disk.meter first numbers row c.in-Some.place s c.start.new.server c.args.log.now.events c.note.new.log.events at c.start.ensures.called.sid c.start.ensures.counted (h ∙ c.make_room.ensures.same) met) c.note.ensures.err
+    let h : c.note.new.log.events ≡ noted c.in_ok-event.event c.make_room.new.self.events = c.note.ensures in (λ numbers first met.
+    order-held g.D.Disk.meter first numbers row c.in-Some.place s c.start.new.server c.in_ok-event.event c.args.log.now.events c.note.new.log.events at c.start.ensures.called.sid c.in_ok-event.ensures.metered (h ∙ ap (noted c.in_ok-event.event) c.make_room.ensures.same) met)
 
 pub returns-in_default-clause-left : goal.returns-in_default-clause-left
 returns-in_default-clause-left g c = λ numbers first met. metered-counts g.D.Disk.meter first numbers c.args.servers.now c.args.log.now.events met
@@ -147,15 +122,9 @@ returns-clause-pictured g c =
     let s = get_or row c.in-Some.place c.index-servers-place.result in
     let at = slice_get-get_or row c.in-Some.place c.index-servers-place.result low in
     let event = c.in_ok-event.event in
-    on_ok_weaker c.note.result (λ (h : c.note.new.log.events ≡ noted event c.make_room.new.self.events). λ told.
+    let h : c.note.new.log.events ≡ noted event c.make_room.new.self.events = c.note.ensures in (λ told.
     row-keeps g.D.Disk.image row c.in-Some.place s c.start.new.server at (c.start.ensures.images told) c.args.log.now.events c.longer.ensures c.note.new.log.events
-    (noted-grows event c.args.log.now.events c.note.new.log.events (h ∙ ap (noted event) c.make_room.ensures.same))) c.note.ensures.ok
-
-pub returns-clause-spared : goal.returns-clause-spared
-returns-clause-spared g c =
-    let s = get_or c.args.servers.now c.in-Some.place c.index-servers-place.result in
-    let order = c.in_ok-event.ensures.started in
-    on_err_weaker c.note.result (λ (begins : IsSomeAnd c.in_ok-event.event (λ (x : Event). stamp_begun x ≢ None)). order-quiet s.sid ask.Start order.given c.in_ok-event.event order.event_is begins) c.note.ensures.begins
+    (noted-grows event c.args.log.now.events c.note.new.log.events (h ∙ ap (noted event) c.make_room.ensures.same)))
 
 pub returns-in_default-clause-spared : goal.returns-in_default-clause-spared
 returns-in_default-clause-spared g c = λ told. still-row g.D.Disk.image c.args.servers.now c.args.log.now.events

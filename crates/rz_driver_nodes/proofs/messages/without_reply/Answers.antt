@@ -1,13 +1,12 @@
-use Rattle.std.proofs.Common.{◌≡◌, ◌≢◌, None, true, ◌∷◌, refl, sym, ◌∙◌}
-use Rattle.std.proofs.lemmas.Result.{on_ok_weaker, on_err_weaker}
+use Rattle.std.proofs.Common.{◌≡◌, true, List, ◌∷◌, sym, ◌∙◌, ap}
+use Rattle.rz_events.specs.declared.events.Event.{Event}
 use Rattle.rz_events.specs.declared.events.Event.TheVariants as e
 use Rattle.rz_cells_slots.specs.Opening.{opening_calls}
 use Rattle.rz_node_model.specs.NodeEvents.{node_event}
 use Rattle.rz_driver_nodes.proofs.MeterLemmas.{call-goes, call-lasts, missed-goes}
 use Rattle.rz_operation_model.specs.Ask.{ask_of}
 use Rattle.rz_driver_nodes.proofs.Asks.{may-miss}
-use Rattle.rz_log.specs.Logged.{stamp_begun}
-use Rattle.rz_driver_nodes.proofs.MessagePictures.{eventless, keeps-lost, node-quiet, not-called}
+use Rattle.rz_driver_nodes.proofs.MessagePictures.{eventless, keeps-lost, not-called}
 use Rattle.rz_driver_nodes.proofs.PictureLemmas.{on-err}
 use Rattle.rz_driver_nodes.proofs.messages.without_reply.Goals as goal
 
@@ -21,8 +20,8 @@ returns-clause-metered g c =
     let h = c.args.log.now.events in
     let s = c.in_ok-answer.ensures in
     let goes = call-goes meter c.faults.ensures c.args.by c.args.number (opening_calls node.geometry) node.geometry.cells c.args.ask c.in_ok-answer.answer node c.serve.new.node s.no_start s.served.given_is s.served.after s.counts h in
-    on_ok_weaker c.note_two.result (λ (n : c.note_two.new.self.events ≡ e.Missed c.args.by c.args.number true ∷ c.in-Some.event ∷ h).
-    missed-goes meter c.args.number node c.serve.new.node h c.note_two.new.self.events c.in-Some.event c.args.by (node_event c.args.by c.args.number c.args.ask c.in_ok-answer.answer) (sym c.node_event.ensures ∙ c.in-Some.is) n goes) c.note_two.ensures.ok
+    let n : c.note-2.new.self.events ≡ e.Missed c.args.by c.args.number true ∷ c.in-Some.event ∷ h = c.note-2.ensures.noted ∙ ap (λ (k : List Event). e.Missed c.args.by c.args.number true ∷ k) c.note.ensures.noted in (
+    missed-goes meter c.args.number node c.serve.new.node h c.note-2.new.self.events c.in-Some.event c.args.by (node_event c.args.by c.args.number c.args.ask c.in_ok-answer.answer) (sym c.node_event.ensures ∙ c.in-Some.is) n goes)
 
 pub returns-clause-counted : goal.returns-clause-counted
 returns-clause-counted g c =
@@ -35,17 +34,10 @@ pub returns-clause-pictured : goal.returns-clause-pictured
 returns-clause-pictured g c =
     let s = c.in_ok-answer.ensures in
     let h = c.args.log.now.events in
-    on_ok_weaker c.note_two.result (λ (n : c.note_two.new.self.events ≡ e.Missed c.args.by c.args.number true ∷ c.in-Some.event ∷ h). λ told.
+    let n : c.note-2.new.self.events ≡ e.Missed c.args.by c.args.number true ∷ c.in-Some.event ∷ h = c.note-2.ensures.noted ∙ ap (λ (k : List Event). e.Missed c.args.by c.args.number true ∷ k) c.note.ensures.noted in (λ told.
     keeps-lost g.D.Disk.text g.D.Disk.image (c.heard.ensures told) c.args.by c.args.number c.args.machine.now c.args.ask c.in_ok-answer.answer c.args.node.now c.serve.new.node c.serve.new.bins h
     (s.message told c.args.number c.requires.asked) c.serve.ensures.geometry s.served.after c.told.ensures c.requires.asked c.requires.lossy c.in-Some.event (sym c.node_event.ensures ∙ c.in-Some.is) c.tell_missed.new.self c.tell_missed.ensures
-    c.note_two.new.self.events n) c.note_two.ensures.ok
-
-pub returns-clause-spared : goal.returns-clause-spared
-returns-clause-spared g c =
-    on_err_weaker c.note_two.result
-    (λ (begins : stamp_begun c.in-Some.event ≡ None → stamp_begun (e.Missed c.args.by c.args.number true) ≢ None).
-    absurd (begins (node-quiet c.args.by c.args.number c.args.ask c.in_ok-answer.answer c.in-Some.event (sym c.node_event.ensures ∙ c.in-Some.is)) refl))
-    c.note_two.ensures.begins
+    c.note-2.new.self.events n)
 
 pub returns-in_default-clause-spared : goal.returns-in_default-clause-spared
 returns-in_default-clause-spared g c = λ told.

@@ -1,16 +1,17 @@
 use Rattle.std.proofs.Common.{Err, ◌≤◌, ◌+◌, ◌-◌, ◌∙◌, List, take_all, refl, subst, arith}
 use Rattle.rz_events.specs.Volume.{Volume}
 use Rattle.rz_script.specs.declared.line.Line.{Line}
-use Rattle.rz_play.specs.Free.{PlaysLineOver, PlaysLinesOver}
+use Rattle.rz_play.specs.Lines.{PlaysLineOver}
+use Rattle.rz_play.specs.Played.{PlaysLinesOver}
 use Rattle.rz_player.specs.Behind.{behind}
-use Rattle.rz_player.specs.Free.{IsLinePlayedOver}
+use Rattle.rz_player.specs.Ends.{IsLinePlayed}
 use Rattle.rz_player.specs.declared.turns.CutCause.{CutCause}
 use Rattle.rz_player.specs.declared.turns.CutCause.TheVariants as cut
 use Rattle.rz_player.proofs.Scripts.{lines-at, script-cut, script-stopped, told}
 use Rattle.rz_player.proofs.lines.play.Goals as goal
 
 stop-over : goal.returns-in-Err-TooManyTurns-clause-over
-stop-over g c b held exact =
+stop-over g c b held =
     let tells = g.S.Stage.tells in
     let volume = g.S.Stage.volume in
     let world = g.S.Stage.world in
@@ -18,24 +19,24 @@ stop-over g c b held exact =
     let e = c.in-Err-TooManyTurns.ensures in
     let mid = behind b.log (world c.loop-line.stage) in
     let next = behind b.log (world c.play_line.new.stage) in
-    let at_end = subst (λ (v : Volume). IsLinePlayedOver v c.line-item.result tells mid (Err cut.TooManyTurns) next) i.volume
-    (subst (λ (k : CutCause). IsLinePlayedOver (volume c.loop-line.stage) c.line-item.result tells mid (Err k) next) c.in-Err-TooManyTurns.field-0-is (e.played b (i.held b held) (i.exact ∙ exact))) in
-    let at_line = subst (λ (x : Line). IsLinePlayedOver (volume c.args.stage.now) x tells mid (Err cut.TooManyTurns) next) c.line-item.is at_end in
+    let at_end = subst (λ (v : Volume). IsLinePlayed v c.line-item.result tells mid (Err cut.TooManyTurns) next) i.volume
+    (subst (λ (k : CutCause). IsLinePlayed (volume c.loop-line.stage) c.line-item.result tells mid (Err k) next) c.in-Err-TooManyTurns.field-0-is (e.played b (i.held b held))) in
+    let at_line = subst (λ (x : Line). IsLinePlayed (volume c.args.stage.now) x tells mid (Err cut.TooManyTurns) next) c.line-item.is at_end in
     let lost = g.L.Link.lost in
     let so_far = i.lost in
     let then = e.lost in
     let few : (world c.play_line.new.stage).lost ≤ (world c.args.stage.now).lost + (lost c.play_line.new.link - lost c.args.link.now) = omega (arith, so_far, then) in
     script-stopped (volume c.args.stage.now) tells c.args.lines.now c.loop-line.line-index c.line-item.result (behind b.log (world c.args.stage.now)) mid next
-    ((world c.args.stage.now).lost + (lost c.play_line.new.link - lost c.args.link.now)) c.loop-line-test.true (i.played b held exact) at_line few
+    ((world c.args.stage.now).lost + (lost c.play_line.new.link - lost c.args.link.now)) c.loop-line-test.true (i.played b held) at_line few
 
 pub returns-in-Err-TooManyTurns-clause-over : goal.returns-in-Err-TooManyTurns-clause-over
 returns-in-Err-TooManyTurns-clause-over = stop-over
 
 pub returns-in-Err-TooManyTurns-clause-played : goal.returns-in-Err-TooManyTurns-clause-played
-returns-in-Err-TooManyTurns-clause-played g c b held is = told _ _ _ _ _ _ _ is (stop-over g c b held (g.S.Stage.exactly c.args.stage.now is))
+returns-in-Err-TooManyTurns-clause-played g c b held is = told _ _ _ _ _ _ _ is (stop-over g c b held)
 
 cut-over : goal.returns-in-Err-NoMemory-clause-over
-cut-over g c b held exact =
+cut-over g c b held =
     let tells = g.S.Stage.tells in
     let volume = g.S.Stage.volume in
     let world = g.S.Stage.world in
@@ -43,21 +44,21 @@ cut-over g c b held exact =
     let e = c.in-Err-NoMemory.ensures in
     let mid = behind b.log (world c.loop-line.stage) in
     let next = behind b.log (world c.play_line.new.stage) in
-    let at_end = subst (λ (v : Volume). IsLinePlayedOver v c.line-item.result tells mid (Err cut.NoMemory) next) i.volume
-    (subst (λ (k : CutCause). IsLinePlayedOver (volume c.loop-line.stage) c.line-item.result tells mid (Err k) next) c.in-Err-NoMemory.field-0-is (e.played b (i.held b held) (i.exact ∙ exact))) in
-    let at_line = subst (λ (x : Line). IsLinePlayedOver (volume c.args.stage.now) x tells mid (Err cut.NoMemory) next) c.line-item.is at_end in
+    let at_end = subst (λ (v : Volume). IsLinePlayed v c.line-item.result tells mid (Err cut.NoMemory) next) i.volume
+    (subst (λ (k : CutCause). IsLinePlayed (volume c.loop-line.stage) c.line-item.result tells mid (Err k) next) c.in-Err-NoMemory.field-0-is (e.played b (i.held b held))) in
+    let at_line = subst (λ (x : Line). IsLinePlayed (volume c.args.stage.now) x tells mid (Err cut.NoMemory) next) c.line-item.is at_end in
     let lost = g.L.Link.lost in
     let so_far = i.lost in
     let then = e.lost in
     let few : (world c.play_line.new.stage).lost ≤ (world c.args.stage.now).lost + (lost c.play_line.new.link - lost c.args.link.now) = omega (arith, so_far, then) in
     script-cut (volume c.args.stage.now) tells c.args.lines.now c.loop-line.line-index c.line-item.result (behind b.log (world c.args.stage.now)) mid next
-    (g.S.Stage.journaled c.play_line.new.stage) c.cut_off.result ((world c.args.stage.now).lost + (lost c.play_line.new.link - lost c.args.link.now)) c.cut_off.ensures.cause c.loop-line-test.true (i.played b held exact) at_line few
+    (g.S.Stage.journaled c.play_line.new.stage) c.cut_off.result ((world c.args.stage.now).lost + (lost c.play_line.new.link - lost c.args.link.now)) c.cut_off.ensures.cause c.loop-line-test.true (i.played b held) at_line few
 
 pub returns-in-Err-NoMemory-clause-over : goal.returns-in-Err-NoMemory-clause-over
 returns-in-Err-NoMemory-clause-over = cut-over
 
 pub returns-in-Err-NoMemory-clause-played : goal.returns-in-Err-NoMemory-clause-played
-returns-in-Err-NoMemory-clause-played g c b held is = told _ _ _ _ _ _ _ is (cut-over g c b held (g.S.Stage.exactly c.args.stage.now is))
+returns-in-Err-NoMemory-clause-played g c b held is = told _ _ _ _ _ _ _ is (cut-over g c b held)
 
 pub loop-line-preserved : goal.loop-line-preserved
 loop-line-preserved g c =
@@ -70,21 +71,20 @@ loop-line-preserved g c =
       ready = e.ready;
       volume = e.volume ∙ i.volume;
       journal = e.journal ∙ i.journal;
-      exact = e.exact ∙ i.exact;
       few = e.few;
       lost = (let so_far = i.lost in let then = e.lost in omega (arith, so_far, then));
       held = λ b held. e.held b (i.held b held);
-      played = λ b held exact.
+      played = λ b held.
           let mid = behind b.log (world c.loop-line.stage) in
           let next = behind b.log (world c.play_line.new.stage) in
-          let played = rw i.volume at (e.played b (i.held b held) (i.exact ∙ exact)).0 in
+          let played = rw i.volume at (e.played b (i.held b held)).0 in
           let played_at = subst (λ (x : Line). PlaysLineOver (volume c.args.stage.now) x tells mid next) c.line-item.is played in
           lines-at (volume c.args.stage.now) tells c.args.lines.now c.loop-line.line-index c.line-item.result (behind b.log (world c.args.stage.now)) mid next
-          c.loop-line-test.true (i.played b held exact) played_at;
+          c.loop-line-test.true (i.played b held) played_at;
     }
 
 whole-over : goal.returns-clause-over
-whole-over g c b held exact =
+whole-over g c b held =
     let tells = g.S.Stage.tells in
     let world = g.S.Stage.world in
     let i = c.loop-line.invariant in
@@ -92,7 +92,7 @@ whole-over g c b held exact =
     let so_far = i.lost in
     record {
       last = behind b.log (world c.loop-line.stage);
-      played = (subst (λ (xs : List Line). PlaysLinesOver (g.S.Stage.volume c.args.stage.now) xs tells (behind b.log (world c.args.stage.now)) (behind b.log (world c.loop-line.stage))) whole (i.played b held exact), i.few);
+      played = (subst (λ (xs : List Line). PlaysLinesOver (g.S.Stage.volume c.args.stage.now) xs tells (behind b.log (world c.args.stage.now)) (behind b.log (world c.loop-line.stage))) whole (i.played b held), i.few);
       losses = omega (arith, so_far);
       log_is = refl;
     }
@@ -101,10 +101,10 @@ pub returns-clause-over : goal.returns-clause-over
 returns-clause-over = whole-over
 
 pub returns-clause-played : goal.returns-clause-played
-returns-clause-played g c b held is = told _ _ _ _ _ _ _ is (whole-over g c b held (g.S.Stage.exactly c.args.stage.now is))
+returns-clause-played g c b held is = told _ _ _ _ _ _ _ is (whole-over g c b held)
 
 pub returns-clause-whole : goal.returns-clause-whole
-returns-clause-whole g c ended b held exact =
+returns-clause-whole g c ended b held =
     let whole = take_all c.loop-line.line-index c.args.lines.now c.loop-line-test.false in
     subst (λ (xs : List Line). PlaysLinesOver (g.S.Stage.volume c.args.stage.now) xs g.S.Stage.tells (behind b.log (g.S.Stage.world c.args.stage.now)) (behind b.log (g.S.Stage.world c.loop-line.stage))) whole
-    (c.loop-line.invariant.played b held exact)
+    (c.loop-line.invariant.played b held)

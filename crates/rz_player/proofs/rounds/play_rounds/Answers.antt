@@ -10,24 +10,24 @@ use Rattle.rz_player.proofs.Stops.{stopped-after}
 use Rattle.rz_player.proofs.rounds.play_rounds.Goals as goal
 
 pub returns-in_err-play_round-clause-played : goal.returns-in_err-play_round-clause-played
-returns-in_err-play_round-clause-played g c b held exact =
+returns-in_err-play_round-clause-played g c b held =
     let volume = g.S.Stage.volume in
     let world = g.S.Stage.world in
     let i = c.loop.invariant in
     let p = err_from_is_err_and c.from_residual.result c.from_residual.ensures.1 in
-    let cut = subst (λ (v : Volume). IsRoundPlayed v actors (behind b.log (world c.loop.stage)) (Err c.in_err-play_round.field-0.0) (behind b.log (world c.play_round.new.stage))) i.volume
-    (c.in_err-play_round.ensures.played b (i.held b held) (i.exact ∙ exact)) in
-    rw (p.1, p.2) (rounds-cut (volume c.args.stage.now) c.loop.counter c.args.count (behind b.log (world c.args.stage.now)) (behind b.log (world c.loop.stage)) (behind b.log (world c.play_round.new.stage))
-    c.in_err-play_round.field-0.0 c.loop-test.true (i.played b held exact) cut)
+    let cut = subst (λ (v : Volume). IsRoundPlayed v actors g.S.Stage.tells (behind b.log (world c.loop.stage)) (Err c.in_err-play_round.field-0.0) (behind b.log (world c.play_round.new.stage))) i.volume
+    (c.in_err-play_round.ensures.played b (i.held b held)) in
+    rw (p.1, p.2) (rounds-cut (volume c.args.stage.now) g.S.Stage.tells c.loop.counter c.args.count (behind b.log (world c.args.stage.now)) (behind b.log (world c.loop.stage)) (behind b.log (world c.play_round.new.stage))
+    c.in_err-play_round.field-0.0 c.loop-test.true (i.played b held) cut)
 
 pub returns-then-not-branch-clause-played : goal.returns-then-not-branch-clause-played
-returns-then-not-branch-clause-played g c b held exact =
+returns-then-not-branch-clause-played g c b held =
     let volume = g.S.Stage.volume in
     let world = g.S.Stage.world in
     let i = c.loop.invariant in
-    let played = subst (λ (v : Volume). IsRoundPlayed v actors (behind b.log (world c.loop.stage)) (Ok c.in_ok-play_round.field-0) (behind b.log (world c.play_round.new.stage))) i.volume
-    (c.in_ok-play_round.ensures.played b (i.held b held) (i.exact ∙ exact)) in
-    rounds-done (volume c.args.stage.now) c.loop.counter c.args.count (behind b.log (world c.args.stage.now)) (behind b.log (world c.loop.stage)) (behind b.log (world c.play_round.new.stage)) c.in_ok-play_round.field-0 c.loop-test.true c.if-not-branch.true (i.played b held exact) played
+    let played = subst (λ (v : Volume). IsRoundPlayed v actors g.S.Stage.tells (behind b.log (world c.loop.stage)) (Ok c.in_ok-play_round.field-0) (behind b.log (world c.play_round.new.stage))) i.volume
+    (c.in_ok-play_round.ensures.played b (i.held b held)) in
+    rounds-done (volume c.args.stage.now) g.S.Stage.tells c.loop.counter c.args.count (behind b.log (world c.args.stage.now)) (behind b.log (world c.loop.stage)) (behind b.log (world c.play_round.new.stage)) c.in_ok-play_round.field-0 c.loop-test.true c.if-not-branch.true (i.played b held) played
 
 pub loop-preserved : goal.loop-preserved
 loop-preserved g c =
@@ -39,14 +39,13 @@ loop-preserved g c =
       ready = e.ready;
       volume = e.volume ∙ i.volume;
       journal = e.journal ∙ i.journal;
-      exact = e.exact ∙ i.exact;
       few = e.few;
       lost = (let so_far = i.lost in let then = e.lost in omega (arith, so_far, then));
       held = λ b held. e.held b (i.held b held);
-      played = λ b held exact.
-          let played = subst (λ (v : Volume). IsRoundPlayed v actors (behind b.log (world c.loop.stage)) (Ok c.in_ok-play_round.field-0) (behind b.log (world c.play_round.new.stage))) i.volume
-          (e.played b (i.held b held) (i.exact ∙ exact)) in
-          rounds-more (volume c.args.stage.now) c.loop.counter (behind b.log (world c.args.stage.now)) (behind b.log (world c.loop.stage)) (behind b.log (world c.play_round.new.stage)) (i.played b held exact) played.0;
+      played = λ b held.
+          let played = subst (λ (v : Volume). IsRoundPlayed v actors g.S.Stage.tells (behind b.log (world c.loop.stage)) (Ok c.in_ok-play_round.field-0) (behind b.log (world c.play_round.new.stage))) i.volume
+          (e.played b (i.held b held)) in
+          rounds-more (volume c.args.stage.now) g.S.Stage.tells c.loop.counter (behind b.log (world c.args.stage.now)) (behind b.log (world c.loop.stage)) (behind b.log (world c.play_round.new.stage)) (i.played b held) played.0;
     }
 
 pub returns-in_err-play_round-clause-stopped : goal.returns-in_err-play_round-clause-stopped

@@ -1,6 +1,6 @@
-use Rattle.std.proofs.Common.{true, ◌≡◌, ◌≤◌, ◌+◌}
+use Rattle.std.proofs.Common.{◌≡◌, ◌≤◌, ◌+◌}
 use Rattle.rz_play.specs.Stops.{most_turns}
-use Rattle.rz_play.specs.Lines.{IsRounds}
+use Rattle.rz_play.specs.Lines.{IsRoundsOver}
 use Rattle.rz_player.specs.Behind.{Before, behind}
 use Rattle.rz_player.specs.Ends.{Carries}
 use Rattle.rz_player.proofs.rounds.play_rounds.Given as goal
@@ -10,9 +10,8 @@ invariant-loop g l = record {
   ready : g.S.Stage.is_ready l.stage;
   volume : g.S.Stage.volume l.stage ≡ g.S.Stage.volume l.fn.stage;
   journal : g.S.Stage.journaled l.stage ≡ g.S.Stage.journaled l.fn.stage;
-  exact : g.S.Stage.exact l.stage ≡ g.S.Stage.exact l.fn.stage;
   few : (g.S.Stage.world l.stage).turns ≤ most_turns;
   lost : (g.S.Stage.world l.stage).lost + g.L.Link.lost l.fn.link ≤ (g.S.Stage.world l.fn.stage).lost + g.L.Link.lost l.link;
   held : Carries (g.S.Stage.holds l.fn.stage) (g.S.Stage.holds l.stage);
-  played : (b : Before) → g.S.Stage.holds l.fn.stage b → g.S.Stage.exact l.fn.stage ≡ true → IsRounds (g.S.Stage.volume l.fn.stage) l.counter (behind b.log (g.S.Stage.world l.fn.stage)) (behind b.log (g.S.Stage.world l.stage));
+  played : (b : Before) → g.S.Stage.holds l.fn.stage b → IsRoundsOver (g.S.Stage.volume l.fn.stage) l.counter g.S.Stage.tells (behind b.log (g.S.Stage.world l.fn.stage)) (behind b.log (g.S.Stage.world l.stage));
 }

@@ -10,15 +10,15 @@ use Rattle.rz_player.proofs.Stops.{stopped-after}
 use Rattle.rz_player.proofs.rounds.play_to_rest.Goals as goal
 
 pub returns-in_err-play_round-clause-played : goal.returns-in_err-play_round-clause-played
-returns-in_err-play_round-clause-played g c b held exact =
+returns-in_err-play_round-clause-played g c b held =
     let volume = g.S.Stage.volume in
     let world = g.S.Stage.world in
     let i = c.loop.invariant in
     let p = err_from_is_err_and c.from_residual.result c.from_residual.ensures.1 in
-    let cut = subst (λ (v : Volume). IsRoundPlayed v actors (behind b.log (world c.loop.stage)) (Err c.in_err-play_round.field-0.0) (behind b.log (world c.play_round.new.stage))) i.volume
-    (c.in_err-play_round.ensures.played b (i.held b held) (i.exact ∙ exact)) in
-    let so_far = i.played b held exact in
-    rw (p.1, p.2) (rest-cut (volume c.args.stage.now) so_far.0 (behind b.log (world c.args.stage.now)) (behind b.log (world c.loop.stage)) (behind b.log (world c.play_round.new.stage)) c.in_err-play_round.field-0.0 so_far.1 cut)
+    let cut = subst (λ (v : Volume). IsRoundPlayed v actors g.S.Stage.tells (behind b.log (world c.loop.stage)) (Err c.in_err-play_round.field-0.0) (behind b.log (world c.play_round.new.stage))) i.volume
+    (c.in_err-play_round.ensures.played b (i.held b held)) in
+    let so_far = i.played b held in
+    rw (p.1, p.2) (rest-cut (volume c.args.stage.now) g.S.Stage.tells so_far.0 (behind b.log (world c.args.stage.now)) (behind b.log (world c.loop.stage)) (behind b.log (world c.play_round.new.stage)) c.in_err-play_round.field-0.0 so_far.1 cut)
 
 pub loop-preserved : goal.loop-preserved
 loop-preserved g c =
@@ -30,27 +30,26 @@ loop-preserved g c =
       ready = e.ready;
       volume = e.volume ∙ i.volume;
       journal = e.journal ∙ i.journal;
-      exact = e.exact ∙ i.exact;
       few = e.few;
       lost = (let so_far = i.lost in let then = e.lost in omega (arith, so_far, then));
       held = λ b held. e.held b (i.held b held);
-      played = λ b held exact.
-          let played = subst (λ (v : Volume). IsRoundPlayed v actors (behind b.log (world c.loop.stage)) (Ok c.in_ok-play_round.field-0) (behind b.log (world c.play_round.new.stage))) i.volume
-          (e.played b (i.held b held) (i.exact ∙ exact)) in
-          let so_far = i.played b held exact in
-          (so_far.0 + 1, rounds-more (volume c.args.stage.now) so_far.0 (behind b.log (world c.args.stage.now)) (behind b.log (world c.loop.stage)) (behind b.log (world c.play_round.new.stage)) so_far.1 played.0);
+      played = λ b held.
+          let played = subst (λ (v : Volume). IsRoundPlayed v actors g.S.Stage.tells (behind b.log (world c.loop.stage)) (Ok c.in_ok-play_round.field-0) (behind b.log (world c.play_round.new.stage))) i.volume
+          (e.played b (i.held b held)) in
+          let so_far = i.played b held in
+          (so_far.0 + 1, rounds-more (volume c.args.stage.now) g.S.Stage.tells so_far.0 (behind b.log (world c.args.stage.now)) (behind b.log (world c.loop.stage)) (behind b.log (world c.play_round.new.stage)) so_far.1 played.0);
     }
 
 pub returns-clause-played : goal.returns-clause-played
-returns-clause-played g c b held exact =
+returns-clause-played g c b held =
     let volume = g.S.Stage.volume in
     let world = g.S.Stage.world in
     let i = c.loop.invariant in
     let e = c.in_ok-play_round.ensures in
-    let played = subst (λ (v : Volume). IsRoundPlayed v actors (behind b.log (world c.loop.stage)) (Ok c.in_ok-play_round.field-0) (behind b.log (world c.play_round.new.stage))) i.volume
-    (e.played b (i.held b held) (i.exact ∙ exact)) in
-    let so_far = i.played b held exact in
-    rest-done (volume c.args.stage.now) so_far.0 (behind b.log (world c.args.stage.now)) (behind b.log (world c.loop.stage)) (behind b.log (world c.play_round.new.stage)) c.in_ok-play_round.field-0 c.if-branch.false so_far.1 played
+    let played = subst (λ (v : Volume). IsRoundPlayed v actors g.S.Stage.tells (behind b.log (world c.loop.stage)) (Ok c.in_ok-play_round.field-0) (behind b.log (world c.play_round.new.stage))) i.volume
+    (e.played b (i.held b held)) in
+    let so_far = i.played b held in
+    rest-done (volume c.args.stage.now) g.S.Stage.tells so_far.0 (behind b.log (world c.args.stage.now)) (behind b.log (world c.loop.stage)) (behind b.log (world c.play_round.new.stage)) c.in_ok-play_round.field-0 c.if-branch.false so_far.1 played
 
 pub returns-in_err-play_round-clause-stopped : goal.returns-in_err-play_round-clause-stopped
 returns-in_err-play_round-clause-stopped g c =

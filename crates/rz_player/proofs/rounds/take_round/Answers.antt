@@ -10,15 +10,15 @@ use Rattle.rz_player.proofs.rounds.take_round.Goals as goal
 use Rattle.rz_player.proofs.rounds.take_round.Goals.{then-is_busy+in_ok-take_turn, else-is_busy}
 
 pub returns-in_err-take_turn-clause-played : goal.returns-in_err-take_turn-clause-played
-returns-in_err-take_turn-clause-played g c b held exact =
+returns-in_err-take_turn-clause-played g c b held =
     let world = g.S.Stage.world in
     let i = c.loop-by.invariant in
     let p = err_from_is_err_and c.from_residual.result c.from_residual.ensures.1 in
     let by = get_or c.args.actors.now c.loop-by.by-index (Client 0) in
-    let turn = subst (λ (v : Volume). IsTurnTaken v by (behind b.log (world c.loop-by.stage)) (Err c.in_err-take_turn.field-0.0) (behind b.log (world c.take_turn.new.stage))) i.volume
-    (c.in_err-take_turn.ensures.taken b (i.held b held) (i.exact ∙ exact)) in
-    rw (p.1, p.2) (cut-at (g.S.Stage.volume c.args.stage.now) c.args.actors.now c.loop-by.by-index _ (behind b.log (world c.args.stage.now)) c.loop-by.any (behind b.log (world c.loop-by.stage)) (behind b.log (world c.take_turn.new.stage))
-    c.in_err-take_turn.field-0.0 c.loop-by-test.true (i.up_to b held exact) (sym c.if-is_busy.ensures) turn)
+    let turn = subst (λ (v : Volume). IsTurnTaken v by g.S.Stage.tells (behind b.log (world c.loop-by.stage)) (Err c.in_err-take_turn.field-0.0) (behind b.log (world c.take_turn.new.stage))) i.volume
+    (c.in_err-take_turn.ensures.taken b (i.held b held)) in
+    rw (p.1, p.2) (cut-at (g.S.Stage.volume c.args.stage.now) g.S.Stage.tells c.args.actors.now c.loop-by.by-index _ (behind b.log (world c.args.stage.now)) c.loop-by.any (behind b.log (world c.loop-by.stage)) (behind b.log (world c.take_turn.new.stage))
+    c.in_err-take_turn.field-0.0 c.loop-by-test.true (i.up_to b held) (sym c.if-is_busy.ensures) turn)
 
 pub loop-by-preserved : goal.loop-by-preserved
 loop-by-preserved g c =
@@ -33,31 +33,29 @@ loop-by-preserved g c =
             ready = w.in_ok-take_turn.ensures.ready;
             volume = w.in_ok-take_turn.ensures.volume ∙ i.volume;
             journal = w.in_ok-take_turn.ensures.journal ∙ i.journal;
-            exact = w.in_ok-take_turn.ensures.exact ∙ i.exact;
             few = w.in_ok-take_turn.ensures.few;
             counted = omega (arith, one, least);
             least = omega (arith, one, least);
             lost = (let so_far = i.lost in let then = w.in_ok-take_turn.ensures.lost in omega (arith, so_far, then));
             held = λ b held. w.in_ok-take_turn.ensures.held b (i.held b held);
-            up_to = λ b held exact.
-                let turn = rw i.volume at (w.in_ok-take_turn.ensures.taken b (i.held b held) (i.exact ∙ exact)) in
-                taken-at (volume c.args.stage.now) c.args.actors.now c.loop-by.by-index _ (behind b.log (world c.args.stage.now)) c.loop-by.any (behind b.log (world c.loop-by.stage))
-                (behind b.log (world w.take_turn.new.stage)) c.loop-by-test.true (i.up_to b held exact) (sym w.if-is_busy.ensures) turn;
+            up_to = λ b held.
+                let turn = rw i.volume at (w.in_ok-take_turn.ensures.taken b (i.held b held)) in
+                taken-at (volume c.args.stage.now) g.S.Stage.tells c.args.actors.now c.loop-by.by-index _ (behind b.log (world c.args.stage.now)) c.loop-by.any (behind b.log (world c.loop-by.stage))
+                (behind b.log (world w.take_turn.new.stage)) c.loop-by-test.true (i.up_to b held) (sym w.if-is_busy.ensures) turn;
           })
       | else-is_busy w ↦
           rw (w.stage-is, w.link-is, w.any-is) (record {
             ready = i.ready;
             volume = i.volume;
             journal = i.journal;
-            exact = i.exact;
             few = i.few;
             counted = i.counted;
             least = i.least;
             lost = i.lost;
             held = i.held;
-            up_to = λ b held exact.
-                skipped-at (volume c.args.stage.now) c.args.actors.now c.loop-by.by-index _ (behind b.log (world c.args.stage.now)) c.loop-by.any (behind b.log (world c.loop-by.stage))
-                c.loop-by-test.true (i.up_to b held exact) (sym w.if-is_busy.ensures);
+            up_to = λ b held.
+                skipped-at (volume c.args.stage.now) g.S.Stage.tells c.args.actors.now c.loop-by.by-index _ (behind b.log (world c.args.stage.now)) c.loop-by.any (behind b.log (world c.loop-by.stage))
+                c.loop-by-test.true (i.up_to b held) (sym w.if-is_busy.ensures);
           })
     ]
 

@@ -3,7 +3,7 @@ use Rattle.rz_player.proofs.Behind.{tells-behind}
 use Rattle.rz_player.proofs.turns.take_turn.Goals as goal
 
 pub returns-in_err-turn-clause-taken : goal.returns-in_err-turn-clause-taken
-returns-in_err-turn-clause-taken g c b held exact =
+returns-in_err-turn-clause-taken g c b held =
     let p = err_from_is_err_and c.from_residual.result c.from_residual.ensures.1 in
     rw (p.1, p.2) (tells-behind b.log (g.S.Stage.world c.args.stage.now) (g.S.Stage.world c.turn.new.self) c.in_err-turn.ensures.log)
 

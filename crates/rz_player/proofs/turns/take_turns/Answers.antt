@@ -1,7 +1,7 @@
 use Rattle.std.proofs.Common.{◌∙◌, subst, arith}
 use Rattle.std.proofs.lemmas.Result.{err_from_is_err_and}
 use Rattle.rz_events.specs.Volume.{Volume}
-use Rattle.rz_play.specs.Turns.{IsTurn}
+use Rattle.rz_play.specs.Free.{IsTurnOver}
 use Rattle.rz_player.specs.Behind.{behind}
 use Rattle.rz_player.proofs.Sequences.{turns-more}
 use Rattle.rz_player.proofs.Cuts.{turns-cut}
@@ -9,13 +9,13 @@ use Rattle.rz_player.proofs.Stops.{stopped-after}
 use Rattle.rz_player.proofs.turns.take_turns.Goals as goal
 
 pub returns-in_err-take_turn-clause-played : goal.returns-in_err-take_turn-clause-played
-returns-in_err-take_turn-clause-played g c b held exact =
+returns-in_err-take_turn-clause-played g c b held =
     let volume = g.S.Stage.volume in
     let world = g.S.Stage.world in
     let i = c.loop.invariant in
     let p = err_from_is_err_and c.from_residual.result c.from_residual.ensures.1 in
-    rw (p.1, p.2) (turns-cut (volume c.args.stage.now) (volume c.loop.stage) c.args.by c.loop.counter c.args.count (behind b.log (world c.args.stage.now)) (behind b.log (world c.loop.stage)) (behind b.log (world c.take_turn.new.stage))
-    c.in_err-take_turn.field-0.0 c.loop-test.true i.few (i.played b held exact) (c.in_err-take_turn.ensures.taken b (i.held b held) (i.exact ∙ exact)))
+    rw (p.1, p.2) (turns-cut (volume c.args.stage.now) (volume c.loop.stage) g.S.Stage.tells c.args.by c.loop.counter c.args.count (behind b.log (world c.args.stage.now)) (behind b.log (world c.loop.stage)) (behind b.log (world c.take_turn.new.stage))
+    c.in_err-take_turn.field-0.0 c.loop-test.true i.few (i.played b held) (c.in_err-take_turn.ensures.taken b (i.held b held)))
 
 pub loop-preserved : goal.loop-preserved
 loop-preserved g c =
@@ -27,13 +27,12 @@ loop-preserved g c =
       ready = e.ready;
       volume = e.volume ∙ i.volume;
       journal = e.journal ∙ i.journal;
-      exact = e.exact ∙ i.exact;
       few = e.few;
       lost = (let so_far = i.lost in let then = e.lost in omega (arith, so_far, then));
       held = λ b held. e.held b (i.held b held);
-      played = λ b held exact.
-          let turn = subst (λ (v : Volume). IsTurn v c.args.by (behind b.log (world c.loop.stage)) (behind b.log (world c.take_turn.new.stage))) i.volume (e.taken b (i.held b held) (i.exact ∙ exact)).0 in
-          turns-more (volume c.args.stage.now) c.args.by c.loop.counter (behind b.log (world c.args.stage.now)) (behind b.log (world c.loop.stage)) (behind b.log (world c.take_turn.new.stage)) (i.played b held exact) turn;
+      played = λ b held.
+          let turn = subst (λ (v : Volume). IsTurnOver v c.args.by g.S.Stage.tells (behind b.log (world c.loop.stage)) (behind b.log (world c.take_turn.new.stage))) i.volume (e.taken b (i.held b held)).0 in
+          turns-more (volume c.args.stage.now) g.S.Stage.tells c.args.by c.loop.counter (behind b.log (world c.args.stage.now)) (behind b.log (world c.loop.stage)) (behind b.log (world c.take_turn.new.stage)) (i.played b held) turn;
     }
 
 pub returns-in_err-take_turn-clause-stopped : goal.returns-in_err-take_turn-clause-stopped

@@ -6,7 +6,7 @@ use Rattle.rz_disk.specs.UnderFuse.{UnderFuse}
 use Rattle.rz_driver_actors.specs.declared.shared.Shared.{Shared}
 use Rattle.rz_driver.specs.Continued.{AreLeft, IsCauseAgain}
 use Rattle.rz_driver.specs.Endings.{EndsAsRefused, StandsForLog}
-use Rattle.rz_driver.specs.Worlds.{Holds, Leaves, exact_if, is_exact, left_behind, tells-exactly, world_of}
+use Rattle.rz_driver.specs.Worlds.{Holds, Leaves, left_behind, tells-known, world_of}
 use Rattle.rz_restart_laws.specs.Earlier.{IsEarlier, IsRestarted}
 use Rattle.rz_events.specs.Volume.{Volume, nodes_of}
 use Rattle.rz_events.specs.declared.events.Event.{Event}
@@ -29,8 +29,8 @@ use Rattle.rz_player.specs.declared.lines.PlayEnd.{PlayEnd}
 use Rattle.rz_report.specs.Output.{Sunk}
 use Rattle.rz_report.specs.Replays.{Performed}
 use Rattle.rz_report.specs.Scrubs.{BetweenTurns}
-use Rattle.rz_report.specs.Telling.{IsPlayOf, TellsOwn}
-use Rattle.rz_report.proofs.Anew.{told_own}
+use Rattle.rz_report.specs.Telling.{IsPlayAgain, IsPlayOf, TellsOwn}
+use Rattle.rz_report.proofs.Anew.{played_on, told_own}
 use Rattle.rz_request.specs.declared.wishes.Wish.TheVariants.{Again, Scrub}
 use Rattle.rz_replay.specs.Disks.{AreFaultsTold, AreImagesTold, AreLocksKept, AreUsedAgain, IsJournalLeft, IsPlayAfter, LeavesNext, MayFollow, faulted}
 use Rattle.rz_replay.proofs.Continuing.{any_told, not-reopened, own_as}
@@ -53,7 +53,6 @@ perform-status-requires-clause-stage g c = record {
   short = λ d b held. held.3.short;
   log_is = λ d e asked. ap (λ (s : Shared (UnderFuse g.row.D.Denot) g.row.D.Denot). s.log.events) asked.shared;
   journal_is = λ d e asked. ap (λ (s : Shared (UnderFuse g.row.D.Denot) g.row.D.Denot). is_journaled s.export) asked.shared;
-  exact_is = λ d e asked. ap (λ (s : Shared (UnderFuse g.row.D.Denot) g.row.D.Denot). exact_if g.D.Disk.tells s.log.earlier) asked.shared;
   whole = λ d b ready held tells few after l is. (
     block_of d.volume.layout (text_in ((facts (d.shared.log.events ++ b.log)).wrote l.published.stamp)),
     c.untouched.ensures d.volume b.log (world_of d) d.agendas.items d.shared.servers.items refl (held.1 tells few) tells after l is,
@@ -128,9 +127,6 @@ module _ (g : given.Over) (c : goal.After-drop-disks g) where
     counted = subst (λ (v : Volume). AreFaultsTold g.D.Disk.meter v c.args.disks.now.items back log) volume_is (c.close_all-log.ensures.counted (left_behind counts old) left_by)
 
     module _ (telling : IsTrue g.D.Disk.tells) where
-      is-exact : is_exact c.in-Ok.driver ≡ true
-      is-exact = tells-exactly c.in-Ok.driver telling
-
       imaged : AreImagesTold g.D.Disk.tells g.D.Disk.meter g.D.Disk.image (Performed end []) volume c.args.disks.now.items back (log ++ old)
       imaged = subst (λ (v : Volume). AreImagesTold g.D.Disk.tells g.D.Disk.meter g.D.Disk.image (Performed end []) v c.args.disks.now.items back (log ++ old)) volume_is
           (c.close_all-log.ensures.imaged (left_behind counts old) left_by)
@@ -143,14 +139,14 @@ module _ (g : given.Over) (c : goal.After-drop-disks g) where
           let was : counts (length (nodes_of volume.clusters)) ≡ faults (meter journal) =
           ap counts (sym count) ∙ ap (λ (xs : List g.row.D.Denot). faults_at meter xs (length nodes)) are ∙ at-last meter nodes journal in
           let E : Volume → Type 0 = λ v. EndsAsRefused refusal g.D.Disk.tells (g.D.Disk.image disk) (counts (length (nodes_of v.clusters))) (faults (meter disk)) v (log ++ old) in
-          let ended : E volume = subst E volume_is (c.close_all-log.ensures.ends (left_behind counts old) disk left_by (c.perform-status.ensures.exact ∙ is-exact) is) in
+          let ended : E volume = subst E volume_is (c.close_all-log.ensures.ends (left_behind counts old) disk left_by (tells-known g.D.Disk.tells (left_behind counts old) telling) is) in
           let S : Volume → Type 0 = λ v. IsTrue g.D.Disk.tells → StandsForLog (g.D.Disk.image disk) v (log ++ old) in
           let stands : BetweenTurns end (S volume) = between-on end _ (S volume) (λ holding. subst S volume_is (c.close_all-log.ensures.stands (left_behind counts old) disk holding is)) holds_by in
           journal-left g.D.Disk.tells meter g.D.Disk.image volume journal disk (log ++ old) end refusal _ c.perform-status.ensures.performed.3 stands
           (subst (λ (k : ℕ). EndsAsRefused refusal g.D.Disk.tells (g.D.Disk.image disk) k (faults (meter disk)) volume (log ++ old)) was ended)
 
       plays : IsPlayOf g.D.Disk.tells volume (behind old (world_of c.in-Ok.driver)) c.args.request.now.script.lines end lost (log ++ old) log
-      plays = c.perform-status.ensures.performed.4.1 (left_behind counts old) held is-exact
+      plays = c.perform-status.ensures.performed.4.1 (left_behind counts old) held
 
       few : length (c.in-Ok.driver.shared.log.events ++ old) < 2 ^ 64 - 1
       few =
@@ -245,14 +241,18 @@ returns-in-Ok g c =
     } in
     let U : List Event → Type 0 = λ h. AreUsedAgain g.D.Disk.tells g.D.Disk.meter g.D.Disk.image (end g c) (volume g c) lines (lost g c) old new h in
     let own : TellsOwn (end g c) c.args.request.now.wish later (log g c) sink c.perform-status.result =
-    told_own (Holds c.in-Ok.driver) (is_exact c.in-Ok.driver) g.D.Disk.tells (volume g c) (world_of c.in-Ok.driver) lines c.args.request.now.wish (end g c) later (lost g c) (log g c) sink c.perform-status.result
+    told_own (Holds c.in-Ok.driver) g.D.Disk.tells (volume g c) (world_of c.in-Ok.driver) lines c.args.request.now.wish (end g c) later (lost g c) (log g c) sink c.perform-status.result
     c.perform-status.ensures.performed.4 in
+    let play : IsPlayAgain g.D.Disk.tells (volume g c) lines (end g c) (lost g c) (log g c) =
+    played_on (Holds c.in-Ok.driver) g.D.Disk.tells (volume g c) (world_of c.in-Ok.driver) lines c.args.request.now.wish (end g c) later (lost g c) (log g c) sink c.perform-status.result
+    (state_in c.in-Ok.driver.shared.servers.items) (export_in c.in-Ok.driver.shared.export) (world_is g c) (left_behind (counts g c) []) refl (untold g c) c.perform-status.ensures.performed.4 in
+    let S : List Event → Type 0 = λ h. IsPlayAgain g.D.Disk.tells (volume g c) lines (end g c) (lost g c) h in
     let T : List Event → Type 0 = λ h. TellsOwn (end g c) c.args.request.now.wish later h sink c.perform-status.result in (
       Performed (end g c) later,
       (
         (
           again-end (end g c) c.args.request.now (faulted g.D.Disk.meter old new) c.requires.again,
-          own_as g.D.Disk.tells (volume g c) lines c.args.request.now.wish (end g c) later (lost g c) _ sink c.perform-status.result c.requires.again (subst T (sym log_is) own),
+          own_as g.D.Disk.tells (volume g c) lines c.args.request.now.wish (end g c) later (lost g c) _ sink c.perform-status.result c.requires.again (subst S (sym log_is) play) (subst T (sym log_is) own),
         ),
         λ telling. any_told c.args.request.now.wish (volume g c) lines (lost g c) _ c.requires.again,
       ),

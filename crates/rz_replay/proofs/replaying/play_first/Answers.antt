@@ -1,4 +1,4 @@
-use Rattle.std.proofs.Common.{◌≡◌, ◌-◌, ◌++◌, ◌∷◌, ◌<◌, ◌≤◌, ℕ, Bool, true, IsTrue, List, [], Option, Some, length, map, reverse, refl, sym, ap, ◌∙◌, subst, inl, inr, ◌+◌, arith}
+use Rattle.std.proofs.Common.{◌≡◌, ◌-◌, ◌++◌, ◌∷◌, ◌<◌, ◌≤◌, ℕ, Bool, true, false, IsTrue, List, [], Option, Some, length, map, reverse, refl, sym, ap, ◌∙◌, subst, inl, inr, ◌+◌, arith}
 use Rattle.std.specs.Prelude.{option_to_list}
 use Rattle.std.proofs.lemmas.List.{append-nil, reverse-reverse, length-map}
 use Rattle.rz_disk.specs.Meter.{faults}
@@ -7,7 +7,7 @@ use Rattle.rz_driver_actors.specs.declared.shared.Shared.{Shared}
 use Rattle.rz_driver.specs.Continued.{AreLeft}
 use Rattle.rz_driver.specs.Endings.{EndsAsRefused, StandsForLog}
 use Rattle.rz_driver.specs.Formatted.{AreBackWithJournal}
-use Rattle.rz_driver.specs.Worlds.{Holds, Leaves, anew, exact_if, is_exact, world_of}
+use Rattle.rz_driver.specs.Worlds.{Holds, Leaves, anew, is_known, world_of}
 use Rattle.rz_events.specs.Volume.{Volume, nodes_of}
 use Rattle.rz_events.specs.declared.events.Event.{Event}
 use Rattle.rz_events.specs.declared.files.NodeSpec.{NodeSpec}
@@ -47,7 +47,6 @@ perform-status-requires-clause-stage g c = record {
   short = λ d b held. held.3.short;
   log_is = λ d e asked. ap (λ (s : Shared (UnderFuse g.row.D.Denot) g.row.D.Denot). s.log.events) asked.shared;
   journal_is = λ d e asked. ap (λ (s : Shared (UnderFuse g.row.D.Denot) g.row.D.Denot). is_journaled s.export) asked.shared;
-  exact_is = λ d e asked. ap (λ (s : Shared (UnderFuse g.row.D.Denot) g.row.D.Denot). exact_if g.D.Disk.tells s.log.earlier) asked.shared;
   whole = λ d b ready held tells few after l is. (
     block_of d.volume.layout (text_in ((facts (d.shared.log.events ++ b.log)).wrote l.published.stamp)),
     c.untouched.ensures d.volume b.log (world_of d) d.agendas.items d.shared.servers.items refl (held.1 tells few) tells after l is,
@@ -60,6 +59,11 @@ plain k = omega arith
 -- only a scrub asks for records after a play
 no-scrub : (g : given.Over) (c : goal.After-drop-disks g) → c.args.request.now.wish ≡ Scrub → ⊥
 no-scrub g c scrubs = let first : c.args.request.now.wish ≡ First = c.requires.first in cc
+
+-- there was no earlier run
+known-anew : (tells : Bool) (counts : ℕ → ℕ) → is_known tells (anew counts) ≡ true
+known-anew true counts = refl
+known-anew false counts = refl
 
 is_anew : (g : given.Over) (c : goal.After-drop-disks g) → c.args.request.now.wish ≡ Again → ⊥
 is_anew g c is = let first : c.args.request.now.wish ≡ First = c.requires.first in cc
@@ -124,7 +128,6 @@ returns-in-Ok g c =
     let disk = has-disk c.perform-status.new.stage.shared.export (c.perform-status.ensures.journal ∙ c.in-Ok.ensures.journal) in
     let new_is : new ≡ back ++ disk.0 ∷ [] = c.close_all-log.ensures.disks ∙ ap (λ (d : Option g.row.D.Denot). back ++ option_to_list d) disk.1 in
     let new_so = c.in-Ok.ensures.world ∙ ap new_world c.volume-volume.ensures in
-    let exact = c.perform-status.ensures.exact ∙ c.in-Ok.ensures.exact in
     let no_more : log ++ [] ≡ log = append-nil log in
     let counted_here = c.close_all-log.ensures.counted (before g c) (left_by g c) in
     let counted : AreFaultsTold meter v old back log = subst (λ (x : Volume). AreFaultsTold meter x old back log) (volume_is g c) counted_here in
@@ -138,7 +141,7 @@ returns-in-Ok g c =
     let is_now : faults_at meter new (length (nodes_of v.clusters)) ≡ faults (meter disk.0) =
     ap (λ (k : ℕ). faults_at meter new k) (sym count) ∙ ap (λ (xs : List g.row.D.Denot). faults_at meter xs (length back)) new_is ∙ at-last meter back disk.0 in
     let E : Volume → Type 0 = λ x. EndsAsRefused (refusal_of c.perform-status.new.stage.shared.export) g.D.Disk.tells (g.D.Disk.image disk.0) (first g c (length (nodes_of x.clusters))) (faults (meter disk.0)) x (log ++ []) in
-    let ended_here : E v = subst E (volume_is g c) (c.close_all-log.ensures.ends (before g c) disk.0 (left_by g c) exact disk.1) in
+    let ended_here : E v = subst E (volume_is g c) (c.close_all-log.ensures.ends (before g c) disk.0 (left_by g c) (known-anew g.D.Disk.tells _) disk.1) in
     let ended = subst (λ (h : List Event). EndsAsRefused (refusal_of c.perform-status.new.stage.shared.export) g.D.Disk.tells (g.D.Disk.image disk.0) (first g c (length (nodes_of v.clusters))) (faults (meter disk.0)) v h)
     no_more ended_here in
     let S : Volume → Type 0 = λ x. IsTrue g.D.Disk.tells → StandsForLog (g.D.Disk.image disk.0) x (log ++ []) in
@@ -178,8 +181,8 @@ returns-in-Ok g c =
       (
         (
           may,
-          subst P (sym log_is) (performs_as g.D.Disk.tells v lines c.args.request.now.wish end later lost log sink c.perform-status.result (is_anew g c) (performs (Holds c.in-Ok.driver) (is_exact c.in-Ok.driver) g.D.Disk.tells v (world_of c.in-Ok.driver) lines c.args.request.now.wish end later lost log (before g c) refl (held g c)
-              c.in-Ok.ensures.exact new_so sink c.perform-status.result c.perform-status.ensures.performed.4)),
+          subst P (sym log_is) (performs_as g.D.Disk.tells v lines c.args.request.now.wish end later lost log sink c.perform-status.result (is_anew g c) (performs (Holds c.in-Ok.driver) g.D.Disk.tells v (world_of c.in-Ok.driver) lines c.args.request.now.wish end later lost log (before g c) refl (held g c)
+              new_so sink c.perform-status.result c.perform-status.ensures.performed.4)),
         ),
         λ tells. subst Q (sym log_is) (told_as c.args.request.now.wish v lines lost log (is_anew g c) (c.perform-status.ensures.told (before g c) (held g c) refl new_so tells)),
       ),

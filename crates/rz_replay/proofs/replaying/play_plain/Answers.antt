@@ -8,7 +8,7 @@ use Rattle.rz_script.specs.declared.line.Line.{Line}
 use Rattle.rz_events.specs.declared.files.NodeSpec.{NodeSpec}
 use Rattle.rz_driver_nodes.specs.Meters.{faults_at}
 use Rattle.rz_nodes.specs.Formatted.{AreBack, IsCause}
-use Rattle.rz_driver.specs.Worlds.{Holds, anew, exact_if, is_exact, world_of}
+use Rattle.rz_driver.specs.Worlds.{Holds, anew, world_of}
 use Rattle.rz_core.specs.HeldRecords.{block_of}
 use Rattle.rz_core.specs.History.{facts, text_in}
 use Rattle.rz_node_model.specs.States.{fresh}
@@ -40,7 +40,6 @@ perform-status-requires-clause-stage g c = record {
   short = λ d b held. held.3.short;
   log_is = λ d e asked. ap (λ (s : Shared (UnderFuse g.row.D.Denot) g.row.D.Denot). s.log.events) asked.shared;
   journal_is = λ d e asked. ap (λ (s : Shared (UnderFuse g.row.D.Denot) g.row.D.Denot). is_journaled s.export) asked.shared;
-  exact_is = λ d e asked. ap (λ (s : Shared (UnderFuse g.row.D.Denot) g.row.D.Denot). exact_if g.D.Disk.tells s.log.earlier) asked.shared;
   whole = λ d b ready held tells few after l is. (
     block_of d.volume.layout (text_in ((facts (d.shared.log.events ++ b.log)).wrote l.published.stamp)),
     c.untouched.ensures d.volume b.log (world_of d) d.agendas.items d.shared.servers.items refl (held.1 tells few) tells after l is,
@@ -90,7 +89,7 @@ returns-in-Ok g c =
       (
         (
           plain-end end _ c.args.request.now _ _ c.in-Ok.ensures.journal c.perform-status.ensures.performed.3,
-          subst P (sym log_is) (performs_as g.D.Disk.tells v lines c.args.request.now.wish end later lost log sink c.perform-status.result c.requires.anew (performs (Holds c.in-Ok.driver) (is_exact c.in-Ok.driver) g.D.Disk.tells v (world_of c.in-Ok.driver) lines c.args.request.now.wish end later lost log b refl held c.in-Ok.ensures.exact new
+          subst P (sym log_is) (performs_as g.D.Disk.tells v lines c.args.request.now.wish end later lost log sink c.perform-status.result c.requires.anew (performs (Holds c.in-Ok.driver) g.D.Disk.tells v (world_of c.in-Ok.driver) lines c.args.request.now.wish end later lost log b refl held new
               sink c.perform-status.result c.perform-status.ensures.performed.4)),
         ),
         λ told. subst Q (sym log_is) (told_as c.args.request.now.wish v lines lost log c.requires.anew (c.perform-status.ensures.told b held refl new told)),

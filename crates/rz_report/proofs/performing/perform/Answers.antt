@@ -29,12 +29,12 @@ returns-in-Ok-clause-performed g c =
     } in
     let P : List ℕ → Type 0 = λ found. Says c.play-end.result c.args.wish found c.log.result.now sink c.tell.result in
     let Q : List Event → Type 0 = λ events. Says c.play-end.result c.args.wish c.in-Ok.found.items events sink c.tell.result in
-    performed_so g.S.Stage.tells g.S.Stage.volume world g.S.Stage.journaled g.S.Stage.exact (g.S.Stage.journaled first) g.S.Stage.cut_off g.S.Stage.holds g.S.Stage.leaves g.S.ScrubbedStore.counts g.S.ScrubbedStore.only_asked v lines c.args.wish
+    performed_so g.S.Stage.tells g.S.Stage.volume world g.S.Stage.journaled (g.S.Stage.journaled first) g.S.Stage.cut_off g.S.Stage.holds g.S.Stage.leaves g.S.ScrubbedStore.counts g.S.ScrubbedStore.only_asked v lines c.args.wish
     lost c.play-end.result first c.play-end.new.stage c.find.new.stage
-    (plays_so (g.S.Stage.holds first) (g.S.Stage.exact first) g.S.Stage.tells v (g.S.Stage.volume first) (world first) (world c.play-end.new.stage) lines c.lines.result.now c.play-end.result lost
+    (plays_so (g.S.Stage.holds first) g.S.Stage.tells v (g.S.Stage.volume first) (world first) (world c.play-end.new.stage) lines c.lines.result.now c.play-end.result lost
     c.requires.volume c.lines.ensures.value c.requires.new c.told_losses.ensures e.played e.over)
-    (λ ended b held exact. whole_play g.S.Stage.tells v (g.S.Stage.volume first) (behind b.log (world first)) lines c.lines.result.now (behind b.log (world c.play-end.new.stage)) c.requires.volume c.lines.ensures.value
-    (e.whole ended b held exact))
+    (λ ended b held. whole_play g.S.Stage.tells v (g.S.Stage.volume first) (behind b.log (world first)) lines c.lines.result.now (behind b.log (world c.play-end.new.stage)) c.requires.volume c.lines.ensures.value
+    (e.whole ended b held))
     (e.volume ∙ c.requires.volume) e.cut e.left e.held (λ is. (e.stopped is).1) _ c.in-Ok.ensures sink c.tell.result
     (elim c.tell.ensures [ inl says ↦ inl (c.in-Ok.found.items, c.in-Ok.ensures.found, subst Q c.log.ensures (subst P c.deref.ensures.value says)) | inr lacks ↦ inr lacks ])
 
@@ -52,12 +52,12 @@ returns-in-Err-clause-performed g c =
       old = g.O.Sink.faults c.args.output.now;
       new = g.O.Sink.faults c.args.output.now;
     } in
-    performed_so g.S.Stage.tells g.S.Stage.volume world g.S.Stage.journaled g.S.Stage.exact (g.S.Stage.journaled first) g.S.Stage.cut_off g.S.Stage.holds g.S.Stage.leaves g.S.ScrubbedStore.counts g.S.ScrubbedStore.only_asked v lines c.args.wish
+    performed_so g.S.Stage.tells g.S.Stage.volume world g.S.Stage.journaled (g.S.Stage.journaled first) g.S.Stage.cut_off g.S.Stage.holds g.S.Stage.leaves g.S.ScrubbedStore.counts g.S.ScrubbedStore.only_asked v lines c.args.wish
     lost c.play-end.result first c.play-end.new.stage c.find.new.stage
-    (plays_so (g.S.Stage.holds first) (g.S.Stage.exact first) g.S.Stage.tells v (g.S.Stage.volume first) (world first) (world c.play-end.new.stage) lines c.lines.result.now c.play-end.result lost
+    (plays_so (g.S.Stage.holds first) g.S.Stage.tells v (g.S.Stage.volume first) (world first) (world c.play-end.new.stage) lines c.lines.result.now c.play-end.result lost
     c.requires.volume c.lines.ensures.value c.requires.new c.told_losses.ensures e.played e.over)
-    (λ ended b held exact. whole_play g.S.Stage.tells v (g.S.Stage.volume first) (behind b.log (world first)) lines c.lines.result.now (behind b.log (world c.play-end.new.stage)) c.requires.volume c.lines.ensures.value
-    (e.whole ended b held exact))
+    (λ ended b held. whole_play g.S.Stage.tells v (g.S.Stage.volume first) (behind b.log (world first)) lines c.lines.result.now (behind b.log (world c.play-end.new.stage)) c.requires.volume c.lines.ensures.value
+    (e.whole ended b held))
     (e.volume ∙ c.requires.volume) e.cut e.left e.held (λ is. (e.stopped is).1) _ c.in-Err.ensures sink 70 (inr (refl, refl))
 
 pub returns-in-Ok-clause-told : goal.returns-in-Ok-clause-told
@@ -71,7 +71,7 @@ returns-in-Ok-clause-told g c b held none new telling =
     let script : IsScript v lines = record { volume = c.requires.rules; limits = c.lines.ensures.limits; few = c.lines.ensures.few } in
     let P : List Event → Type 0 = λ h. IsTold v lines lost h in
     subst P (sym c.find.ensures.log_is) (c.true_logs.ensures v lines script c.play-end.result lost log (anew_play v (g.S.Stage.world first) lines c.play-end.result lost log b.log none new
-    (told_play (g.S.Stage.holds first) (g.S.Stage.exact first) g.S.Stage.tells v (g.S.Stage.volume first) (g.S.Stage.world first) (g.S.Stage.world c.play-end.new.stage) lines c.lines.result.now c.play-end.result lost
+    (told_play (g.S.Stage.holds first) g.S.Stage.tells v (g.S.Stage.volume first) (g.S.Stage.world first) (g.S.Stage.world c.play-end.new.stage) lines c.lines.result.now c.play-end.result lost
     c.requires.volume c.lines.ensures.value c.requires.new c.told_losses.ensures e.played e.over b held telling)))
 
 pub returns-in-Err-clause-told : goal.returns-in-Err-clause-told
@@ -85,5 +85,5 @@ returns-in-Err-clause-told g c b held none new telling =
     let script : IsScript v lines = record { volume = c.requires.rules; limits = c.lines.ensures.limits; few = c.lines.ensures.few } in
     let P : List Event → Type 0 = λ h. IsTold v lines lost h in
     subst P (sym c.find.ensures.log_is) (c.true_logs.ensures v lines script c.play-end.result lost log (anew_play v (g.S.Stage.world first) lines c.play-end.result lost log b.log none new
-    (told_play (g.S.Stage.holds first) (g.S.Stage.exact first) g.S.Stage.tells v (g.S.Stage.volume first) (g.S.Stage.world first) (g.S.Stage.world c.play-end.new.stage) lines c.lines.result.now c.play-end.result lost
+    (told_play (g.S.Stage.holds first) g.S.Stage.tells v (g.S.Stage.volume first) (g.S.Stage.world first) (g.S.Stage.world c.play-end.new.stage) lines c.lines.result.now c.play-end.result lost
     c.requires.volume c.lines.ensures.value c.requires.new c.told_losses.ensures e.played e.over b held telling)))

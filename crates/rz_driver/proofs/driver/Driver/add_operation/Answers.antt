@@ -16,7 +16,7 @@ use Rattle.rz_driver_nodes.proofs.Rows.{all-at}
 use Rattle.rz_driver.proofs.OrderLemmas.{ordered, still-ready, all-more}
 use Rattle.rz_driver.proofs.ActorOrders.{place-low, operation-fits}
 use Rattle.rz_driver.proofs.DriverPictures.{actor-picture, works-with, still-counted, still-right}
-use Rattle.rz_driver.proofs.JournalLemmas.{goes-after, journal-stays, journal-still}
+use Rattle.rz_driver.proofs.JournalLemmas.{journal-stays, journal-still}
 use Rattle.rz_driver_nodes.proofs.PictureLemmas.{on-err}
 use Rattle.rz_driver.proofs.driver.Driver.add_operation.Goals as goal
 
@@ -70,14 +70,14 @@ returns-clause-held g c = λ b met.
       actor-picture d b.log c.in-Some.place s agenda d.turns here c.in_ok-add.ensures.machine
           (λ a. ap (λ (w : World). (w.agendas a).work) (returns-clause-played g c) ∙ works-with (world_of d) c.args.by (with_operation ((world_of d).agendas c.args.by) c.args.op.now) refl a) (λ rules fine.
           c.lined.ensures d.volume rules b.log (line.Op c.args.by c.args.op.now) c.requires.line (behind b.log (world_of d)) (behind b.log (world d.shared (set d.agendas.items c.in-Some.place agenda) d.turns)) (ap (behind b.log) (returns-clause-played g c)) fine) met.1,
-      journal-stays d _ refl refl refl b met.2 refl,
-      goes-after d _ refl b met.3,
+      journal-stays d _ refl refl b met.2 refl,
+      met.3,
     )
 
 pub returns-in_err-add-clause-left : goal.returns-in_err-add-clause-left
 returns-in_err-add-clause-left g c = on-err c.from_residual-in_err-add.result (λ b met.
     let d = c.args.self.now in
-    inr (still-counted d d refl d.shared.log.events refl b met, still-right d d refl d.shared.log.events refl b met, journal-still d _ refl refl refl b met.2 refl, goes-after d _ refl b met.3))
+    inr (still-counted d d refl d.shared.log.events refl b met, still-right d d refl d.shared.log.events refl b met, journal-still d _ refl refl b met.2 refl, met.3))
 
 pub returns-in_err-op-clause-left : goal.returns-in_err-op-clause-left
 returns-in_err-op-clause-left g c = on-err c.from_residual.result (λ b held. inl held)

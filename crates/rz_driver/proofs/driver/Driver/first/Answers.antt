@@ -7,7 +7,7 @@ use Rattle.rz_driver_nodes.specs.Meters.{faults_at}
 use Rattle.rz_driver.specs.declared.driver.Driver.{Driver}
 use Rattle.rz_driver.specs.Formatted.{AreBackWithJournal, IsBehindJournal, IsJournalRefused}
 use Rattle.rz_driver.specs.Worlds.{anew, Holds}
-use Rattle.rz_driver.proofs.BehindJournal.{back-count, behind-exact, behind-holds, behind-made, behind-ready, behind-world, back-with, cause-with, front-count, has-last, refused-back, refused-cause}
+use Rattle.rz_driver.proofs.BehindJournal.{back-count, behind-holds, behind-made, behind-ready, behind-world, back-with, cause-with, front-count, has-last, refused-back, refused-cause}
 use Rattle.rz_driver.proofs.MadeLemmas.{as-many}
 use Rattle.rz_driver.proofs.driver.Driver.first.Goals as goal
 
@@ -28,11 +28,6 @@ pub returns-in-Ok-new-clause-ready : goal.returns-in-Ok-new-clause-ready
 returns-in-Ok-new-clause-ready g c =
     let d = c.in-Ok-new.driver in
     IfOk-weaker c.behind_journal.result (λ e. IsBehindJournal c.in-Ok.journal d e) _ (λ e behind. behind-ready c.in-Ok.journal d e behind c.in-Ok-new.ensures.ready) c.behind_journal.ensures.behind
-
-pub returns-in-Ok-new-clause-exact : goal.returns-in-Ok-new-clause-exact
-returns-in-Ok-new-clause-exact g c =
-    let d = c.in-Ok-new.driver in
-    IfOk-weaker c.behind_journal.result (λ e. IsBehindJournal c.in-Ok.journal d e) _ (λ e behind. behind-exact c.in-Ok.journal d e behind c.in-Ok-new.ensures.exact) c.behind_journal.ensures.behind
 
 pub returns-in-Ok-new-clause-volume : goal.returns-in-Ok-new-clause-volume
 returns-in-Ok-new-clause-volume g c =

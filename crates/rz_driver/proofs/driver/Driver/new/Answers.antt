@@ -17,7 +17,7 @@ use Rattle.rz_driver_nodes.proofs.MeterLemmas.{new-holds}
 use Rattle.rz_driver.proofs.MadeLemmas.{as-many, new-ready, new-is}
 use Rattle.rz_driver_nodes.specs.Meters.{faults_at}
 use Rattle.rz_driver_nodes.specs.Servers.{IsServer}
-use Rattle.rz_driver.proofs.NewPictures.{new-exact, new-picture}
+use Rattle.rz_driver.proofs.NewPictures.{new-picture}
 use Rattle.rz_driver.proofs.driver.Driver.new.Goals as goal
 
 pub returns-in_default-clause-back : goal.returns-in_default-clause-back
@@ -47,16 +47,13 @@ pub returns-in-Ok-format_all-clause-world : goal.returns-in-Ok-format_all-clause
 returns-in-Ok-format_all-clause-world g c =
     new-is g.D.Disk.tells g.D.Disk.meter g.D.Disk.text g.D.Disk.image c.args.volume.now c.args.disks.items
     (record { servers = c.in-Ok-format_all.servers; export = c.in-Ok-new_export.export; locks = c.new-locks.result; lost = 0; log = c.new-log.result; bins = c.in-Ok.parts.bins }) c.in-Ok.parts.agendas.items (returns-in-Ok-format_all-clause-made g c)
-    c.in-Ok.ensures.agendas c.in-Ok-new_export.ensures.export refl c.new-log.ensures.events
+    c.in-Ok.ensures.agendas c.in-Ok-new_export.ensures.export refl c.new-log.ensures
 
 pub returns-in-Err-clause-back : goal.returns-in-Err-clause-back
 returns-in-Err-clause-back g c =
     let layout : c.volume.inside.layout ≡ c.args.volume.now.layout = ap (λ (v : Volume). v.layout) c.volume.view_is in
     subst (λ (y : Layout). AreBack g.D.Disk.tells g.D.Disk.meter g.D.Disk.image y (nodes_of c.args.volume.now.clusters) c.args.disks.items c.in-Err.back.0.items) layout
     (subst (λ (ns : List NodeSpec). AreBack g.D.Disk.tells g.D.Disk.meter g.D.Disk.image c.volume.inside.layout ns c.args.disks.items c.in-Err.back.0.items) (c.as_slice.ensures.value ∙ c.in-Ok.ensures.nodes) c.in-Err.ensures.back)
-
-pub returns-in-Ok-format_all-clause-exact : goal.returns-in-Ok-format_all-clause-exact
-returns-in-Ok-format_all-clause-exact g c = new-exact g.D.Disk.tells c.new-log.result.earlier c.new-log.ensures.earlier
 
 pub returns-in-Ok-format_all-clause-held : goal.returns-in-Ok-format_all-clause-held
 returns-in-Ok-format_all-clause-held g c =
@@ -65,10 +62,10 @@ returns-in-Ok-format_all-clause-held g c =
     let made = returns-in-Ok-format_all-clause-made g c in
     let row = c.in-Ok-format_all.servers.items in
     let at = faults_at g.D.Disk.meter c.args.disks.items (length (nodes_of c.in-Ok.parts.volume.clusters)) in
-    let none : c.new-log.result.events ++ [] ≡ [] = append-nil c.new-log.result.events ∙ c.new-log.ensures.events in
+    let none : c.new-log.result.events ++ [] ≡ [] = append-nil c.new-log.result.events ∙ c.new-log.ensures in
     let servers : AllByRecursion (IsServer v) row = subst (λ (u : Volume). AllByRecursion (IsServer u) row) c.in-Ok.ensures.volume ready.servers in (
       new-holds g.D.Disk.tells g.D.Disk.meter g.D.Disk.text g.D.Disk.image v c.new_parts.ensures.rules c.args.disks.items _ _ _ ready.numbers
-          (ap (λ (u : Volume). map (λ (n : NodeSpec). n.sid) (nodes_of u.clusters)) c.in-Ok.ensures.volume) made c.new-log.ensures.events,
+          (ap (λ (u : Volume). map (λ (n : NodeSpec). n.sid) (nodes_of u.clusters)) c.in-Ok.ensures.volume) made c.new-log.ensures,
       new-picture g.D.Disk.tells g.D.Disk.meter g.D.Disk.text g.D.Disk.image c.fresh.ensures v c.new_parts.ensures.rules c.args.disks.items _ (returns-in-Ok-format_all-clause-world g c) c.in-Ok.parts.agendas.items c.in-Ok.ensures.agendas row servers made
           c.in-Ok.parts.volume c.in-Ok.ensures.volume,
       (λ exact. record {
@@ -77,7 +74,7 @@ returns-in-Ok-format_all-clause-held g c =
         keeps = λ few. subst (λ (h : List Event). KeepsLog g.D.Disk.tells g.D.Disk.meter g.D.Disk.image at c.in-Ok-new_export.export h) (sym none)
             ([], no-calls g.D.Disk.tells, c.in-Ok-new_export.ensures.stands at);
       }),
-      record { anew = λ no. refl; short = omega arith },
+      record { short = omega arith },
     )
 
 -- there is room for the disks of the nodes, and for one more

@@ -9,9 +9,9 @@ use Rattle.rz_play.specs.World.{World}
 use Rattle.rz_script.specs.declared.line.Line.TheVariants as line
 use Rattle.rz_driver_nodes.specs.Meters.{AreMetered, AreCounted, CarriesCounts}
 use Rattle.rz_driver_nodes.specs.Images.{KeepsRow, SparesRow, fused_image}
-use Rattle.rz_driver.specs.Worlds.{world, world_of, exact_if}
+use Rattle.rz_driver.specs.Worlds.{world, world_of}
 use Rattle.rz_driver.proofs.DriverPictures.{order-holds, order-leaves}
-use Rattle.rz_driver.proofs.JournalLemmas.{goes-after, journal-ordered, journal-still, started-stays}
+use Rattle.rz_driver.proofs.JournalLemmas.{journal-ordered, journal-still, started-stays}
 use Rattle.rz_driver_nodes.proofs.PictureLemmas.{both-ok, noted-grows, three-ok, three-err}
 use Rattle.rz_driver.proofs.NodeOrders.{admin-behind, ordered-in, started-in, called-in, called-ready, admin-call, free-start, start-over}
 use Rattle.rz_driver.proofs.driver.Driver.order_start.Goals as goal
@@ -24,8 +24,8 @@ returns-clause-ready g c =
     called-ready d _ c.requires.ready refl refl c.args.sid (called-in c.args.sid d.shared.servers c.as_mut_slice.result.now c.start_node.new.servers c.as_mut_slice.ensures.value k) refl refl)
     c.start_node.ensures.called
 
-pub returns-clause-called : goal.returns-clause-called
-returns-clause-called g c =
+pub returns-clause-played : goal.returns-clause-played
+returns-clause-played g c =
     let d = c.args.self.now in
     let slice = c.as_mut_slice.result.now in
     let new = c.start_node.new in
@@ -57,7 +57,7 @@ returns-clause-held g c =
     let o = order-holds d xs ys c.as_mut_slice.ensures.value b held c.lasting.ensures next refl (noted-grows orders.1.event h h' orders.1.log_is) keeps
     (λ told rules fine. c.lined.ensures d.volume rules b.log (line.Start c.args.sid) c.requires.line (behind b.log (world_of d)) (behind b.log next)
     (admin-behind b.log d.volume c.args.sid ask.Start (world_of d) next (admin-call d c.requires.ready q refl refl ask.Start c.args.sid (ordered-in ask.Start c.args.sid d.shared.servers xs ys h h' c.as_mut_slice.ensures.value (orders.0 told)))) fine) holds in
-    (o.0, o.1, journal-ordered d _ refl c.start_node.ensures.earlier refl b held.2 (c.untold.ensures d.volume) held.1 (noted-grows orders.1.event h h' orders.1.log_is) (started-stays c.args.sid xs ys h h' orders.1), goes-after d _ c.start_node.ensures.earlier b held.3))
+    (o.0, o.1, journal-ordered d _ refl refl b held.2 (c.untold.ensures d.volume) held.1 (noted-grows orders.1.event h h' orders.1.log_is) (started-stays c.args.sid xs ys h h' orders.1), held.3))
     c.start_node.ensures.held c.start_node.ensures.pictured orders
 
 pub returns-clause-left : goal.returns-clause-left
@@ -72,8 +72,5 @@ returns-clause-left g c =
     three-err c.start_node.result
     (λ (leaves : (numbers : List ℕ) → CarriesCounts (AreMetered meter numbers xs h) (AreCounted meter numbers ys h')) (spares : IsTrue g.D.Disk.tells → SparesRow image xs h ys) (still : h' ≡ h). λ b held.
     let o = order-leaves d xs ys c.as_mut_slice.ensures.value b held h' still spares leaves in
-    inr (o.0, o.1, journal-still d _ refl c.start_node.ensures.earlier refl b held.2 still, goes-after d _ c.start_node.ensures.earlier b held.3))
+    inr (o.0, o.1, journal-still d _ refl refl b held.2 still, held.3))
     c.start_node.ensures.left c.start_node.ensures.spared c.start_node.ensures.err
-
-pub returns-clause-exact : goal.returns-clause-exact
-returns-clause-exact g c = ap (exact_if g.D.Disk.tells) c.start_node.ensures.earlier

@@ -11,11 +11,11 @@ use Rattle.rz_driver_nodes.proofs.Rows.{all-at}
 use Rattle.rz_driver.proofs.OrderLemmas.{ordered, still-ready}
 use Rattle.rz_driver.proofs.ActorOrders.{place-low}
 use Rattle.rz_driver.proofs.DriverPictures.{actor-picture, works-with}
-use Rattle.rz_driver.proofs.JournalLemmas.{goes-after, journal-stays}
+use Rattle.rz_driver.proofs.JournalLemmas.{journal-stays}
 use Rattle.rz_driver.proofs.driver.Driver.plan_miss.Goals as goal
 
-pub returns-in-Some-clause-ready : goal.returns-in-Some-clause-ready
-returns-in-Some-clause-ready g c =
+pub returns-clause-ready : goal.returns-clause-ready
+returns-clause-ready g c =
     let d = c.args.self.now in
     let s = c.index_mut.result.now in
     let at : place_of c.args.by ≡ Some c.in-Some.place = sym c.place.ensures ∙ c.in-Some.is in
@@ -27,8 +27,8 @@ returns-in-Some-clause-ready g c =
     still-ready d _ c.args.by c.in-Some.place s (record s { miss = Some c.args.reply }) c.requires.ready refl refl refl at low here
     (record { machine = shape.machine; todo = shape.todo }) refl
 
-pub returns-in-Some-clause-played : goal.returns-in-Some-clause-played
-returns-in-Some-clause-played g c =
+pub returns-clause-played : goal.returns-clause-played
+returns-clause-played g c =
     let d = c.args.self.now in
     let s = c.index_mut.result.now in
     let at : place_of c.args.by ≡ Some c.in-Some.place = sym c.place.ensures ∙ c.in-Some.is in
@@ -38,8 +38,8 @@ returns-in-Some-clause-played g c =
     let here : slice_get d.agendas.items c.in-Some.place ≡ Some s = slice_get_read d.agendas.items (length d.agendas.items) c.in-Some.place s refl low c.index_mut.ensures.value in
     ordered d.shared d.agendas.items d.turns c.args.by c.in-Some.place s (record s { miss = Some c.args.reply }) (λ x. with_miss x c.args.reply) at low here refl
 
-pub returns-in-Some-clause-held : goal.returns-in-Some-clause-held
-returns-in-Some-clause-held g c = λ b met.
+pub returns-clause-held : goal.returns-clause-held
+returns-clause-held g c = λ b met.
     let d = c.args.self.now in
     let s = c.index_mut.result.now in
     let agenda = record s { miss = Some c.args.reply } in
@@ -50,8 +50,8 @@ returns-in-Some-clause-held g c = λ b met.
     let here : slice_get d.agendas.items c.in-Some.place ≡ Some s = slice_get_read d.agendas.items (length d.agendas.items) c.in-Some.place s refl low c.index_mut.ensures.value in (
       met.0,
       actor-picture d b.log c.in-Some.place s agenda d.turns here refl
-          (λ a. ap (λ (w : World). (w.agendas a).work) (returns-in-Some-clause-played g c) ∙ works-with (world_of d) c.args.by (with_miss ((world_of d).agendas c.args.by) c.args.reply) refl a) (λ rules fine.
-          c.lined.ensures d.volume rules b.log (line.Miss c.args.by c.args.reply) c.requires.line (behind b.log (world_of d)) (behind b.log (world d.shared (set d.agendas.items c.in-Some.place agenda) d.turns)) (ap (behind b.log) (returns-in-Some-clause-played g c)) fine) met.1,
-      journal-stays d _ refl refl refl b met.2 refl,
-      goes-after d _ refl b met.3,
+          (λ a. ap (λ (w : World). (w.agendas a).work) (returns-clause-played g c) ∙ works-with (world_of d) c.args.by (with_miss ((world_of d).agendas c.args.by) c.args.reply) refl a) (λ rules fine.
+          c.lined.ensures d.volume rules b.log (line.Miss c.args.by c.args.reply) c.requires.line (behind b.log (world_of d)) (behind b.log (world d.shared (set d.agendas.items c.in-Some.place agenda) d.turns)) (ap (behind b.log) (returns-clause-played g c)) fine) met.1,
+      journal-stays d _ refl refl b met.2 refl,
+      met.3,
     )

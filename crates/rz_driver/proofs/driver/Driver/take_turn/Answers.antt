@@ -1,13 +1,13 @@
-use Rattle.std.proofs.Common.{◌≡◌, ◌+◌, true, inl, inr, List, ◌++◌, refl, sym, ◌∙◌, ap, subst}
+use Rattle.std.proofs.Common.{◌≡◌, ◌+◌, inl, inr, List, ◌++◌, refl, sym, ◌∙◌, ap, subst}
 use Rattle.rz_events.specs.declared.events.Event.{Event}
 use Rattle.rz_driver.specs.declared.driver.Driver.{Driver}
-use Rattle.rz_driver.specs.Worlds.{exact_if, is_exact, tells-exactly, IsDriver, Holds}
-use Rattle.rz_driver.proofs.DriverPictures.{turn-lengths, turn-picture, turn-texts, turn-spares, right-disks, still-right, still-counted}
+use Rattle.rz_driver.specs.Worlds.{tells-known, IsDriver, Holds}
+use Rattle.rz_driver.proofs.DriverPictures.{turn-good, turn-lengths, turn-picture, turn-texts, turn-spares, right-disks, still-right, still-counted}
 use Rattle.rz_driver.proofs.DriverMeters.{log-kept}
-use Rattle.rz_driver.proofs.JournalLemmas.{goes-after, journal-goes-on, journal-ends, journal-still}
+use Rattle.rz_driver.proofs.JournalLemmas.{journal-goes-on, journal-ends, journal-still}
 use Rattle.rz_driver_nodes.proofs.PictureLemmas.{on-err}
 use Rattle.rz_driver_actors.proofs.ActPictures.{act-grows}
-use Rattle.rz_driver.proofs.TakeLemmas.{agenda-there, have-layouts, tied-at, drives, turned}
+use Rattle.rz_driver.proofs.TakeLemmas.{agenda-there, have-layouts, tied-at, drives, turned, turned-told}
 use Rattle.rz_driver.proofs.driver.Driver.take_turn.Goals as goal
 
 pub take_up-requires : goal.take_up-requires
@@ -36,33 +36,23 @@ returns-clause-ready g c =
     c.in_ok-take_up.ensures.ok c.in_ok-take_up.ensures.agenda c.take_up.ensures.lock c.make_room.ensures.same c.in_ok-act.ensures.ok refl refl c.act.ensures.bins
 
 pub returns-clause-taken : goal.returns-clause-taken
-returns-clause-taken g c = λ b held exact.
+returns-clause-taken g c = λ b held.
     let ready = subst (λ (x : Driver g.row.D.Denot g.D.Disk). IsDriver x) (sym c.self.view_is) c.requires.ready in
     let here = subst (λ (x : Driver g.row.D.Denot g.D.Disk). Holds x b) (sym c.self.view_is) held in
     let at = sym c.place.ensures ∙ c.in-Some.is in
     let there = agenda-there c.args.by c.in-Some.place c.index_mut-agenda.result.now _ ready at c.index_mut-agenda.ensures.value in
-    let texts = λ (exact : is_exact c.args.self.now ≡ true). turn-texts c.args.by c.in-Some.place _ c.args.self.now c.self.view_is c.make_room.new.self c.index_mut-agenda.result.now c.take_up.new.self at there.0 c.in_ok-take_up.ensures.agenda.machine
-    c.in_ok-take_up.ensures.ok c.make_room.ensures.same c.in_ok-take_up.ensures.hand c.working.ensures b.log
-    (λ no. here.3.anew (sym c.make_room.ensures.earlier ∙ no)) here.3.short c.in_ok-make_room.ensures.short here.1
-    (ap (exact_if g.D.Disk.tells) c.make_room.ensures.earlier ∙ subst (λ (x : Driver g.row.D.Denot g.D.Disk). is_exact x ≡ true) (sym c.self.view_is) exact)
+    let texts = turn-texts c.args.by c.in-Some.place _ c.args.self.now c.self.view_is c.make_room.new.self c.index_mut-agenda.result.now c.take_up.new.self at there.0 c.in_ok-take_up.ensures.agenda.machine
+    c.in_ok-take_up.ensures.ok c.make_room.ensures.same c.in_ok-take_up.ensures.hand c.working.ensures b.log here.3.short c.in_ok-make_room.ensures.short here.1 (λ told. (here.2 (tells-known _ b told)).bytes told)
+    in
+    let good = turn-good c.args.by c.in-Some.place _ c.args.self.now c.self.view_is c.make_room.new.self c.index_mut-agenda.result.now c.take_up.new.self at there.0 c.in_ok-take_up.ensures.agenda.machine
+    c.in_ok-take_up.ensures.ok c.make_room.ensures.same c.in_ok-take_up.ensures.hand c.working.ensures b.log here.3.short c.in_ok-make_room.ensures.short here.1 c.act.new.agenda c.act.new.shared.servers.items c.act.new.shared.log.events c.fitting.ensures
+    c.in_ok-act.ensures.pictured
     in
     turned c.args.by c.in-Some.place _ c.act.new.shared c.make_room.new.self c.index_mut-agenda.result.now c.take_up.new.self c.act.new.agenda ready at there.0 there.1
-    c.in_ok-take_up.ensures.ok c.in_ok-take_up.ensures.agenda c.take_up.ensures.lock c.make_room.ensures.same c.in_ok-act.ensures.ok b.log (texts exact) c.args.self.now c.self.view_is
+    c.in_ok-take_up.ensures.ok c.in_ok-take_up.ensures.agenda c.take_up.ensures.lock c.make_room.ensures.same c.in_ok-act.ensures.ok b.log texts good c.args.self.now c.self.view_is
 
 pub returns-clause-counted : goal.returns-clause-counted
 returns-clause-counted g c = ap (λ (x : Driver g.row.D.Denot g.D.Disk). x.turns + 1) c.self.view_is
-
-pub returns-clause-exact : goal.returns-clause-exact
-returns-clause-exact g c = ap (exact_if g.D.Disk.tells) (c.act.ensures.earlier ∙ c.make_room.ensures.earlier) ∙ ap (λ (x : Driver g.row.D.Denot g.D.Disk). is_exact x) c.self.view_is
-
-pub returns-in_err-act-clause-exact : goal.returns-in_err-act-clause-exact
-returns-in_err-act-clause-exact g c = ap (exact_if g.D.Disk.tells) (c.act.ensures.earlier ∙ c.make_room.ensures.earlier) ∙ ap (λ (x : Driver g.row.D.Denot g.D.Disk). is_exact x) c.self.view_is
-
-pub returns-in_err-take_up-clause-exact : goal.returns-in_err-take_up-clause-exact
-returns-in_err-take_up-clause-exact g c = ap (exact_if g.D.Disk.tells) c.make_room.ensures.earlier ∙ ap (λ (x : Driver g.row.D.Denot g.D.Disk). is_exact x) c.self.view_is
-
-pub returns-in_err-make_room-clause-exact : goal.returns-in_err-make_room-clause-exact
-returns-in_err-make_room-clause-exact g c = ap (exact_if g.D.Disk.tells) c.make_room.ensures.earlier ∙ ap (λ (x : Driver g.row.D.Denot g.D.Disk). is_exact x) c.self.view_is
 
 pub returns-clause-held : goal.returns-clause-held
 returns-clause-held g c = λ b met.
@@ -71,24 +61,26 @@ returns-clause-held g c = λ b met.
     let at = sym c.place.ensures ∙ c.in-Some.is in
     let a0 = c.index_mut-agenda.result.now in
     let there = agenda-there c.args.by c.in-Some.place a0 _ ready at c.index_mut-agenda.ensures.value in
-    let texts = λ (exact : is_exact c.args.self.now ≡ true). turn-texts c.args.by c.in-Some.place _ c.args.self.now c.self.view_is c.make_room.new.self c.index_mut-agenda.result.now c.take_up.new.self at there.0 c.in_ok-take_up.ensures.agenda.machine
-    c.in_ok-take_up.ensures.ok c.make_room.ensures.same c.in_ok-take_up.ensures.hand c.working.ensures b.log
-    (λ no. here.3.anew (sym c.make_room.ensures.earlier ∙ no)) here.3.short c.in_ok-make_room.ensures.short here.1
-    (ap (exact_if g.D.Disk.tells) c.make_room.ensures.earlier ∙ subst (λ (x : Driver g.row.D.Denot g.D.Disk). is_exact x ≡ true) (sym c.self.view_is) exact)
+    let texts = turn-texts c.args.by c.in-Some.place _ c.args.self.now c.self.view_is c.make_room.new.self c.index_mut-agenda.result.now c.take_up.new.self at there.0 c.in_ok-take_up.ensures.agenda.machine
+    c.in_ok-take_up.ensures.ok c.make_room.ensures.same c.in_ok-take_up.ensures.hand c.working.ensures b.log here.3.short c.in_ok-make_room.ensures.short here.1 (λ told. (here.2 (tells-known _ b told)).bytes told)
     in
-    let turn = λ (exact : is_exact c.args.self.now ≡ true). turned c.args.by c.in-Some.place _ c.act.new.shared c.make_room.new.self a0 c.take_up.new.self c.act.new.agenda ready at there.0 there.1
-    c.in_ok-take_up.ensures.ok c.in_ok-take_up.ensures.agenda c.take_up.ensures.lock c.make_room.ensures.same c.in_ok-act.ensures.ok b.log (texts exact) _ refl
+    let good = turn-good c.args.by c.in-Some.place _ c.args.self.now c.self.view_is c.make_room.new.self c.index_mut-agenda.result.now c.take_up.new.self at there.0 c.in_ok-take_up.ensures.agenda.machine
+    c.in_ok-take_up.ensures.ok c.make_room.ensures.same c.in_ok-take_up.ensures.hand c.working.ensures b.log here.3.short c.in_ok-make_room.ensures.short here.1 c.act.new.agenda c.act.new.shared.servers.items c.act.new.shared.log.events c.fitting.ensures
+    c.in_ok-act.ensures.pictured
+    in
+    let turn = turned-told c.args.by c.in-Some.place _ c.act.new.shared c.make_room.new.self a0 c.take_up.new.self c.act.new.agenda ready at there.0 there.1
+    c.in_ok-take_up.ensures.ok c.in_ok-take_up.ensures.agenda c.take_up.ensures.lock c.make_room.ensures.same c.in_ok-act.ensures.ok b.log texts good
     in
     let grown = act-grows _ c.args.by c.take_up.new.self c.act.new.agenda _ c.act.new.shared c.in_ok-act.ensures.ok in (
       c.in_ok-act.ensures.held _ b.counts (log-kept _ ready c.make_room.new.self.events b c.make_room.ensures.same here),
       turn-picture c.args.by c.in-Some.place _ c.args.self.now c.self.view_is c.make_room.new.self a0 c.take_up.new.self at there.0 c.in_ok-take_up.ensures.agenda.machine
           c.in_ok-take_up.ensures.ok c.make_room.ensures.same c.in_ok-take_up.ensures.hand c.working.ensures b.log c.act.new.agenda _ c.act.new.shared.servers.items c.turned.ensures c.facts_told.ensures c.lasting.ensures
-          (λ told. turn (tells-exactly c.args.self.now told)) c.in_ok-act.ensures.pictured (grown.0, grown.1 ∙ ap (λ (k : List Event). grown.0 ++ k) c.make_room.ensures.same) met.1,
-      (λ now. journal-goes-on _ _ refl (c.act.ensures.earlier ∙ c.make_room.ensures.earlier) c.act.ensures.store b c.make_room.new.self.events c.make_room.ensures.same here.2 now here.1 grown (c.told.ensures _) (c.untold.ensures _) c.args.by c.take_up.new.self.machine
+          turn c.in_ok-act.ensures.pictured (grown.0, grown.1 ∙ ap (λ (k : List Event). grown.0 ++ k) c.make_room.ensures.same) met.1,
+      (λ now. journal-goes-on _ _ refl c.act.ensures.store b c.make_room.new.self.events c.make_room.ensures.same here.2 now here.1 grown (c.told.ensures _) (c.untold.ensures _) c.args.by c.take_up.new.self.machine
           (turn-lengths c.args.by c.in-Some.place _ c.args.self.now c.self.view_is c.make_room.new.self a0 c.take_up.new.self at there.0 c.in_ok-take_up.ensures.agenda.machine
           c.in_ok-take_up.ensures.ok c.make_room.ensures.same c.in_ok-take_up.ensures.hand c.working.ensures b.log c.own_proper.ensures here.1)
           c.in_ok-act.ensures.kept),
-      goes-after _ _ (c.act.ensures.earlier ∙ c.make_room.ensures.earlier) b here.3,
+      here.3,
     )
 
 pub returns-in_default-clause-left : goal.returns-in_default-clause-left
@@ -100,8 +92,8 @@ returns-in_err-make_room-clause-left g c = on-err c.from_residual.result (λ b m
     inr (
       still-counted _ c.args.self.now c.self.view_is c.make_room.new.self.events c.make_room.ensures.same b met,
       still-right _ c.args.self.now c.self.view_is c.make_room.new.self.events c.make_room.ensures.same b met,
-      journal-still _ _ refl c.make_room.ensures.earlier refl b here.2 c.make_room.ensures.same,
-      goes-after _ _ c.make_room.ensures.earlier b here.3,
+      journal-still _ _ refl refl b here.2 c.make_room.ensures.same,
+      here.3,
     ))
 
 pub returns-in_err-take_up-clause-left : goal.returns-in_err-take_up-clause-left
@@ -110,8 +102,8 @@ returns-in_err-take_up-clause-left g c = on-err c.from_residual-in_err-take_up.r
     inr (
       still-counted _ c.args.self.now c.self.view_is c.make_room.new.self.events c.make_room.ensures.same b met,
       still-right _ c.args.self.now c.self.view_is c.make_room.new.self.events c.make_room.ensures.same b met,
-      journal-still _ _ refl c.make_room.ensures.earlier refl b here.2 c.make_room.ensures.same,
-      goes-after _ _ c.make_room.ensures.earlier b here.3,
+      journal-still _ _ refl refl b here.2 c.make_room.ensures.same,
+      here.3,
     ))
 
 pub returns-in_err-act-clause-left : goal.returns-in_err-act-clause-left
@@ -129,6 +121,6 @@ returns-in_err-act-clause-left g c = on-err c.from_residual-in_err-act.result (�
     inr (
       counted,
       right-disks _ c.args.self.now c.self.view_is c.act.new.shared.log.events (c.in_err-act.ensures.err ∙ c.make_room.ensures.same) b met ys (counted.named ∙ sym here.0.named) spares,
-      (λ now. journal-ends _ _ refl (c.act.ensures.earlier ∙ c.make_room.ensures.earlier) c.act.ensures.store b c.make_room.new.self.events c.make_room.ensures.same here.2 now c.in_err-act.ensures.err c.in_err-act.ensures.ended),
-      goes-after _ _ (c.act.ensures.earlier ∙ c.make_room.ensures.earlier) b here.3,
+      (λ now. journal-ends _ _ refl c.act.ensures.store b c.make_room.new.self.events c.make_room.ensures.same here.2 now c.in_err-act.ensures.err c.in_err-act.ensures.ended),
+      here.3,
     ))

@@ -12,9 +12,6 @@ returns-clause-volume g c = c.take_turn.ensures.volume
 pub returns-clause-journal : goal.returns-clause-journal
 returns-clause-journal g c = c.take_turn.ensures.journal
 
-pub returns-clause-exact : goal.returns-clause-exact
-returns-clause-exact g c = c.take_turn.ensures.exact
-
 pub returns-clause-ready : goal.returns-clause-ready
 returns-clause-ready g c = c.take_turn.ensures.ready
 

@@ -1,16 +1,12 @@
 use Rattle.std.proofs.Common.{◌≡◌, ◌<◌, ◌∙◌, get_or, length, refl, ap, rules}
-use Rattle.std.specs.Prelude.{◌≢◌, IsSomeAnd, None}
 use Rattle.std.proofs.lemmas.Option.{slice_get-get_or}
-use Rattle.std.proofs.lemmas.Result.{on_ok_weaker, on_err_weaker}
-use Rattle.rz_events.specs.declared.nodes.NodeAsk.TheVariants as ask
 use Rattle.rz_events.specs.declared.events.Event.{Event}
-use Rattle.rz_log.specs.Logged.{stamp_begun}
 use Rattle.rz_play.specs.Lines.{noted}
 use Rattle.rz_driver_nodes.proofs.MeterLemmas.{metered-counts, still-err, order-held, order-left}
 use Rattle.rz_driver_nodes.proofs.Rows.{at-within}
-use Rattle.rz_driver_nodes.proofs.OrderPictures.{order-quiet, row-keeps, still-row}
+use Rattle.rz_driver_nodes.proofs.OrderPictures.{row-keeps, still-row}
 use Rattle.rz_driver_nodes.proofs.PictureLemmas.{noted-grows, on-err}
-use Rattle.rz_driver_nodes.proofs.administration.lose_node.Goals as goal
+use Rattle.rz_driver_nodes.proofs.administration.order_node.Goals as goal
 
 pub offset_bounds-servers-place : goal.offset_bounds-servers-place
 offset_bounds-servers-place g c = let low : c.in-Some.place < length c.args.servers.now = at-within c.args.servers.now c.args.sid c.in-Some.place c.in-Some.ensures in search rules
@@ -21,17 +17,17 @@ bounds-servers-place g c = at-within c.args.servers.now c.args.sid c.in-Some.pla
 pub returns-clause-ok : goal.returns-clause-ok
 returns-clause-ok g c =
     let low = at-within c.args.servers.now c.args.sid c.in-Some.place c.in-Some.ensures in
-    on_ok_weaker c.note.result (λ (h : c.note.new.log.events ≡ noted c.lose-event.result c.make_room.new.self.events). record {
+    let h : c.note.new.log.events ≡ noted c.order-event.result c.make_room.new.self.events = c.note.ensures in (record {
       place = c.in-Some.place;
       server = get_or c.args.servers.now c.in-Some.place c.index-servers-place.result;
-      after = c.lose-event.new.server;
-      event = c.lose-event.result;
+      after = c.order-event.new.server;
+      event = c.order-event.result;
       at = c.in-Some.ensures;
       is = slice_get-get_or c.args.servers.now c.in-Some.place c.index-servers-place.result low;
       servers = refl;
-      order = c.lose-event.ensures.order;
-      log_is = h ∙ ap (noted c.lose-event.result) c.make_room.ensures.same;
-    }) c.note.ensures.ok
+      order = c.order-event.ensures.order;
+      log_is = h ∙ ap (noted c.order-event.result) c.make_room.ensures.same;
+    })
 
 pub returns-clause-held : goal.returns-clause-held
 returns-clause-held g c =
@@ -39,17 +35,8 @@ returns-clause-held g c =
     let low = at-within row c.args.sid c.in-Some.place c.in-Some.ensures in
     let s = get_or row c.in-Some.place c.index-servers-place.result in
     let at = slice_get-get_or row c.in-Some.place c.index-servers-place.result low in
-    on_ok_weaker c.note.result (λ (h : c.note.new.log.events ≡ noted c.lose-event.result c.make_room.new.self.events). λ numbers first met.
-    order-held g.D.Disk.meter first numbers row c.in-Some.place s c.lose-event.new.server c.lose-event.result c.args.log.now.events c.note.new.log.events at c.lose-event.ensures.order.called.sid c.lose-event.ensures.metered (h ∙ ap (noted c.lose-event.result) c.make_room.ensures.same) met) c.note.ensures.ok
-
-pub returns-clause-left : goal.returns-clause-left
-returns-clause-left g c =
-    let row = c.args.servers.now in
-    let low = at-within row c.args.sid c.in-Some.place c.in-Some.ensures in
-    let s = get_or row c.in-Some.place c.index-servers-place.result in
-    let at = slice_get-get_or row c.in-Some.place c.index-servers-place.result low in
-    on_err_weaker c.note.result (λ (h : c.note.new.log.events ≡ c.make_room.new.self.events). λ numbers first met.
-    order-left g.D.Disk.meter first numbers row c.in-Some.place s c.lose-event.new.server c.args.log.now.events c.note.new.log.events at c.lose-event.ensures.order.called.sid c.lose-event.ensures.counted (h ∙ c.make_room.ensures.same) met) c.note.ensures.err
+    let h : c.note.new.log.events ≡ noted c.order-event.result c.make_room.new.self.events = c.note.ensures in (λ numbers first met.
+    order-held g.D.Disk.meter first numbers row c.in-Some.place s c.order-event.new.server c.order-event.result c.args.log.now.events c.note.new.log.events at c.order-event.ensures.order.called.sid c.order-event.ensures.metered (h ∙ ap (noted c.order-event.result) c.make_room.ensures.same) met)
 
 pub returns-in_default-clause-left : goal.returns-in_default-clause-left
 returns-in_default-clause-left g c = λ numbers first met. metered-counts g.D.Disk.meter first numbers c.args.servers.now c.args.log.now.events met
@@ -65,15 +52,9 @@ returns-clause-pictured g c =
     let low = at-within row c.args.sid c.in-Some.place c.in-Some.ensures in
     let s = get_or row c.in-Some.place c.index-servers-place.result in
     let at = slice_get-get_or row c.in-Some.place c.index-servers-place.result low in
-    on_ok_weaker c.note.result (λ (h : c.note.new.log.events ≡ noted c.lose-event.result c.make_room.new.self.events). λ told.
-    row-keeps g.D.Disk.image row c.in-Some.place s c.lose-event.new.server at (c.lose-event.ensures.images told) c.args.log.now.events c.longer.ensures c.note.new.log.events
-    (noted-grows c.lose-event.result c.args.log.now.events c.note.new.log.events (h ∙ ap (noted c.lose-event.result) c.make_room.ensures.same))) c.note.ensures.ok
-
-pub returns-clause-spared : goal.returns-clause-spared
-returns-clause-spared g c =
-    let s = get_or c.args.servers.now c.in-Some.place c.index-servers-place.result in
-    let order = c.lose-event.ensures.order in
-    on_err_weaker c.note.result (λ (begins : IsSomeAnd c.lose-event.result (λ (x : Event). stamp_begun x ≢ None)). order-quiet s.sid ask.Lose order.given c.lose-event.result order.event_is begins) c.note.ensures.begins
+    let h : c.note.new.log.events ≡ noted c.order-event.result c.make_room.new.self.events = c.note.ensures in (λ told.
+    row-keeps g.D.Disk.image row c.in-Some.place s c.order-event.new.server at (c.order-event.ensures.images told) c.args.log.now.events c.longer.ensures c.note.new.log.events
+    (noted-grows c.order-event.result c.args.log.now.events c.note.new.log.events (h ∙ ap (noted c.order-event.result) c.make_room.ensures.same)))
 
 pub returns-in_default-clause-spared : goal.returns-in_default-clause-spared
 returns-in_default-clause-spared g c = λ told. still-row g.D.Disk.image c.args.servers.now c.args.log.now.events

@@ -9,12 +9,12 @@ use Rattle.rz_play.specs.World.{World}
 use Rattle.rz_script.specs.declared.line.Line.TheVariants as line
 use Rattle.rz_driver_nodes.specs.Meters.{AreMetered, AreCounted, CarriesCounts}
 use Rattle.rz_driver_nodes.specs.Images.{KeepsRow, SparesRow, fused_image}
-use Rattle.rz_driver.specs.Worlds.{world, world_of, exact_if}
+use Rattle.rz_driver.specs.Worlds.{world, world_of}
 use Rattle.rz_driver.proofs.DriverPictures.{order-holds, order-leaves}
-use Rattle.rz_driver.proofs.JournalLemmas.{goes-after, journal-ordered, journal-still, arming-stays}
+use Rattle.rz_driver.proofs.JournalLemmas.{journal-ordered, journal-still, arming-stays}
 use Rattle.rz_driver_nodes.proofs.PictureLemmas.{three-ok, three-err}
 use Rattle.rz_driver.proofs.NodeOrders.{arming-in, armed-ready, armed-world}
-use Rattle.rz_driver.proofs.driver.Driver.order_break.Goals as goal
+use Rattle.rz_driver.proofs.driver.Driver.arm.Goals as goal
 
 pub returns-clause-ready : goal.returns-clause-ready
 returns-clause-ready g c =
@@ -25,8 +25,8 @@ returns-clause-ready g c =
     (arming-in c.args.passes c.args.pick c.args.sid d.shared.servers c.as_mut_slice.result.now c.arm_node.new.servers d.shared.log.events c.arm_node.new.log.events c.as_mut_slice.ensures.value a) refl refl)
     c.arm_node.ensures.ok
 
-pub returns-clause-armed : goal.returns-clause-armed
-returns-clause-armed g c =
+pub returns-clause-played : goal.returns-clause-played
+returns-clause-played g c =
     let d = c.args.self.now in
     on_ok_weaker c.arm_node.result
     (λ (a : IsArming c.args.passes c.args.pick c.args.sid c.as_mut_slice.result.now c.arm_node.new.servers d.shared.log.events c.arm_node.new.log.events).
@@ -50,8 +50,8 @@ returns-clause-held g c =
     let log = ap (λ (w : World). w.log) armed in
     let o = order-holds d xs ys c.as_mut_slice.ensures.value b held c.lasting.ensures next refl (e.Armed c.args.sid c.args.passes c.args.pick ∷ [], log) keeps
     (λ told rules fine. c.lined.ensures d.volume rules b.log (line.Break c.args.sid c.args.passes c.args.pick) c.requires.line (behind b.log (world_of d)) (behind b.log next) (ap (behind b.log) armed) fine) holds in
-    (o.0, o.1, journal-ordered d _ refl c.arm_node.ensures.earlier refl b held.2 (c.untold.ensures d.volume) held.1 (e.Armed c.args.sid c.args.passes c.args.pick ∷ [], log) (arming-stays c.args.sid c.args.passes c.args.pick h h' log), goes-after d _ c.arm_node.ensures.earlier b held.3))
-    c.arm_node.ensures.held c.arm_node.ensures.pictured (returns-clause-armed g c)
+    (o.0, o.1, journal-ordered d _ refl refl b held.2 (c.untold.ensures d.volume) held.1 (e.Armed c.args.sid c.args.passes c.args.pick ∷ [], log) (arming-stays c.args.sid c.args.passes c.args.pick h h' log), held.3))
+    c.arm_node.ensures.held c.arm_node.ensures.pictured (returns-clause-played g c)
 
 pub returns-clause-left : goal.returns-clause-left
 returns-clause-left g c =
@@ -65,8 +65,5 @@ returns-clause-left g c =
     three-err c.arm_node.result
     (λ (leaves : (numbers : List ℕ) → CarriesCounts (AreMetered meter numbers xs h) (AreCounted meter numbers ys h')) (spares : IsTrue g.D.Disk.tells → SparesRow image xs h ys) (still : h' ≡ h). λ b held.
     let o = order-leaves d xs ys c.as_mut_slice.ensures.value b held h' still spares leaves in
-    inr (o.0, o.1, journal-still d _ refl c.arm_node.ensures.earlier refl b held.2 still, goes-after d _ c.arm_node.ensures.earlier b held.3))
+    inr (o.0, o.1, journal-still d _ refl refl b held.2 still, held.3))
     c.arm_node.ensures.left c.arm_node.ensures.spared c.arm_node.ensures.err
-
-pub returns-clause-exact : goal.returns-clause-exact
-returns-clause-exact g c = ap (exact_if g.D.Disk.tells) c.arm_node.ensures.earlier
