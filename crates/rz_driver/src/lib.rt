@@ -11,7 +11,7 @@
 //! changed the export. They do not say that there is memory.
 //!
 //! After a play [`Driver::published`] and [`Driver::fetch`] show what is published and what the nodes hold,
-//! without an event: so a driver is a `Store` to scrub.
+//! without an event: so a driver is a `ScrubbedStore`.
 //!
 //! In reading order: `driver`, `turns`, `orders`, `nodes`, `parts`, `making`, `closing`, `journaling`,
 //! `continuing`, `stage`, `asking`.

@@ -28,8 +28,7 @@ pub(crate) enum CallTexts {
 
 /// Asks the export what a machine asks of it, tells the machine the reply, and notes it.
 ///
-/// The log's texts of the call are copied before the export is asked, so that no memory is wanting once a call
-/// has changed it.
+/// The log's texts of the call are copied before the export is asked. A reply on names is copied after it.
 pub fn ask_export<D: Disk>(
     alloc: Global,
     by: Actor,

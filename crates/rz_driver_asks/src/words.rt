@@ -13,8 +13,7 @@ use std::alloc::{AllocError, Global};
 
 /// Says what a machine is about to say, and answers whether that was the answer of its operation.
 ///
-/// A text that was found is that of the block which fits the records that came. Where disks tell their texts
-/// it is that of the write which it names.
+/// The text that is noted is the one that the machine has in hand.
 pub fn say(
     alloc: Global,
     by: Actor,

@@ -5,8 +5,8 @@ use rz_events::Event;
 use std::alloc::{AllocError, Global};
 use std::marker::Model;
 
-/// Memory is wanting; or the journal of a stage did not keep a call. A play stops there, and its log has all
-/// that happened.
+/// Memory is wanting, or a test failed that holds over disks that tell their texts; or the journal of a stage
+/// did not keep a call. A play stops there, and its log has all that happened.
 #[derive(Clone, Copy, Debug, PartialEq, Eq, Drop)]
 pub struct Halted;
 

@@ -147,7 +147,7 @@ pub fn losses()
         → (p : IsBegunFrom v (world_after nodes export old) script log) → missed log ≤ missed old + misses script + p.last.lost }
 {}
 
-/// So was each one over disks that need not tell what a start finds on them.
+/// So was each one over disks that need not tell their texts.
 pub fn losses_over()
     ensures { (v : Volume) (script : List ALine) (tells : Bool) (nodes : ℕ → NodeState) (export : ExportState) (old : List AnEvent) (last : World)
         → IsReached v script tells (world_after nodes export old) last → missed last.log ≤ missed old + misses script + last.lost }

@@ -57,7 +57,7 @@ pub record IsClear (tells : Bool) (words : Option Meaning) (source : Reading) (c
   pub room : (later : List Event) → ¬ (course ≡ Performed JournalFull later)
 
 -- The status is 0. The script was played to its end: over disks that tell their texts the log is that of its play, over others of one
--- in which a start may find anything. The sink took all that is to be told of it.
+-- in which a start and a read may find anything. The sink took all that is to be told of it.
 pub record IsFinished (tells : Bool) (wish : Wish) (s : Script) (lost : ℕ) (sink : Sunk) (status : ℕ) (h : List Event) : Type 0 where
   pub status_is : status ≡ 0
   pub played : IsTrue tells → IsPlayed s.volume s.lines h

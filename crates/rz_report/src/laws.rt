@@ -21,7 +21,7 @@ pub(crate) fn true_logs()
     rz_safety::written();
 }
 
-/// So each lost message is accounted for, also over disks that do not tell what a start finds on them.
+/// So each lost message is accounted for, also over disks that do not tell their texts.
 pub(crate) fn told_losses()
     ensures { AreLossesTold }
 {
