@@ -3,7 +3,7 @@
 ghost use Rattle.std.specs.Prelude.{◌≡◌, [], IfOk, length};
 ghost use Rattle.rz_play.specs.World.{new_world};
 ghost use Rattle.rz_player.specs.Behind.{Before};
-ghost use Rattle.rz_driver.specs.Worlds.{Holds, IsDriver, world_of};
+ghost use Rattle.rz_driver.specs.Worlds.{HoldsBetweenTurns, IsDriver, world_of};
 ghost use Rattle.rozo_sample.specs.Samples.{IsSample, Shows, Tells};
 
 use rz_disk::PlainDisk;
@@ -65,7 +65,7 @@ fn play_on(
     requires ready { IsDriver driver }
     requires volume { driver.volume ≡ script.now.volume }
     requires new { world_of driver ≡ new_world script.now.volume }
-    requires held { (b : Before) × (b.log ≡ []) × Holds driver b }
+    requires held { (b : Before) × (b.log ≡ []) × HoldsBetweenTurns driver b }
     ensures { Shows script.now result }
 {
     let mut link = PlainLink::new();

@@ -57,7 +57,7 @@ fn run_in<J: Naming + Send + Sync, R: Threads + Print + Clock + Sync + Drop>(
     opened: NewBook,
     size: BookSize,
 ) -> io::Result<()>
-    requires named { (opened.seen.book ≡ J.book) × (opened.tokens.tallies ≡ J.tallies) × (opened.tokens.copy ≡ J.copy) × (opened.tokens.kind ≡ J.kind) }
+    requires named { (opened.seen.book ≡ J.book) × (opened.tokens.counters ≡ J.counters) × (opened.tokens.copy ≡ J.copy) × (opened.tokens.kind ≡ J.kind) }
     requires kind { J.kind ≡ kind_of false plain_volume }
     requires earlier { HasEarlierLog J.kind J.earlier }
 {

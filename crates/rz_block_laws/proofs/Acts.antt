@@ -21,13 +21,13 @@ use Rattle.rz_operation_model.specs.Ask.{Ask, AskNode, ask_of}
 use Rattle.rz_operation_model.specs.Steps.{Told, Answered, told, begun}
 use Rattle.rz_operation_model.specs.Turns.{IsStep, Through}
 use Rattle.rz_operation_model.specs.Work.{Work, Over}
-use Rattle.rz_operation.specs.Answers.{Goes}
+use Rattle.rz_operation.specs.Answers.{IsWorkAfter}
 use Rattle.rz_operation.specs.Machine.{Machine, text_asked}
 use Rattle.rz_core.specs.History.{Facts, facts, of_actor}
 use Rattle.rz_core.specs.Courses.{IsCourse}
 use Rattle.rz_core.specs.Courses as course
 use Rattle.rz_core.specs.Longer.{IsOneRun, IsPermanent}
-use Rattle.rz_play_laws.specs.Own.{GrowsTo, IsOwn, IsOwnKept, IsOwnTurn, IsOwnProper, IsProper, IsToldBy, AreToldBy, IsUnderWay}
+use Rattle.rz_play_laws.specs.Own.{GrowsTo, IsOwnOf, IsOwnKept, IsOwnTurn, IsOwnProper, IsProper, IsToldBy, AreToldBy, HasOwnEvents}
 use Rattle.rz_play_laws.proofs.Scripts.{begins, does-it}
 use Rattle.rz_play_laws.proofs.Telling.{wrote-short}
 use Rattle.rz_block_laws.specs.Laws as blocks
@@ -61,7 +61,7 @@ begins-law v hand by op is = record {
       record {
         true_to = record {
           layout_is = layout;
-          own = subst (λ (w : Work). IsOwn v (facts h) own own by w) (sym work) (begins v (facts h) own own by op is);
+          own = subst (λ (w : Work). IsOwnOf v (facts h) own own by w) (sym work) (begins v (facts h) own own by op is);
           hand = hand (facts h) op m work;
         };
         way = inr (subst (λ (w : Work). IsCourse v.layout by number own w) (sym work) (course.Begun own op (does-it v by op is) between));
@@ -78,10 +78,10 @@ rests-law permanent v kept lasting h more by number m same acts =
     record {
       true_to = record {
         layout_is = acts.true_to.layout_is;
-        own = subst (λ (o : List Event). IsOwn v (facts g) o o by m.work) (sym same) (kept (facts h) (facts g) grow (of_actor by h) (of_actor by h) by m.work acts.true_to.own);
+        own = subst (λ (o : List Event). IsOwnOf v (facts g) o o by m.work) (sym same) (kept (facts h) (facts g) grow (of_actor by h) (of_actor by h) by m.work acts.true_to.own);
         hand = lasting h more m acts.true_to.hand;
       };
-      way = subst (λ (o : List Event). IsUnderWay v by number o m.work) (sym same) acts.way;
+      way = subst (λ (o : List Event). HasOwnEvents v by number o m.work) (sym same) acts.way;
       texts = texts-grow (facts h) (facts g) grow m.work acts.texts;
     }
 
@@ -116,8 +116,8 @@ on permanent v turn h more by number m new t xs acts it =
     record {
       true_to = record {
         layout_is = it.layout ∙ layout;
-        own = subst (λ (o : List Event). IsOwn v (facts g) o o by new.work) (sym it.own)
-            (subst (λ (w : Work). IsOwn v (facts g) (xs ++ own) (xs ++ own) by w) (sym work) (turn (facts h) (facts g) grow own own by number m.work acts.true_to.own t xs step it.said));
+        own = subst (λ (o : List Event). IsOwnOf v (facts g) o o by new.work) (sym it.own)
+            (subst (λ (w : Work). IsOwnOf v (facts g) (xs ++ own) (xs ++ own) by w) (sym work) (turn (facts h) (facts g) grow own own by number m.work acts.true_to.own t xs step it.said));
         hand = it.hand;
       };
       way = inr (subst (λ (o : List Event). IsCourse v.layout by number o new.work) (sym it.own)
@@ -141,7 +141,7 @@ goes-law permanent v turn hand h more by number m new t xs acts it =
     }
 
 -- what it asks of a node is proper by any facts
-asks-at : (v : Volume) → IsOwnProper v → (f : Facts) (o : List Event) (by : Actor) (number : ℕ) (m : Machine) (n : ℕ) (question : NodeAsk) → m.layout ≡ v.layout → IsOwn v f o o by m.work → IsUnderWay v by number o m.work
+asks-at : (v : Volume) → IsOwnProper v → (f : Facts) (o : List Event) (by : Actor) (number : ℕ) (m : Machine) (n : ℕ) (question : NodeAsk) → m.layout ≡ v.layout → IsOwnOf v f o o by m.work → HasOwnEvents v by number o m.work
     → ask_of m.layout m.work ≡ AskNode n question → IsProper v f o o by number (AskNode n question)
 asks-at v proper f o by number m n question layout own (inl over) asked =
     let never : ask_of m.layout Over ≡ AskNode n question = ap (ask_of m.layout) (sym over) ∙ asked in absurd cc
@@ -159,7 +159,7 @@ module _ (permanent : ArePermanent) (v : Volume) (turn : IsOwnTurn v) (kept : Is
   step-of question given it = subst (λ (a : Ask). IsStep by number a (Answered true given) (x ∷ [])) (sym it.asked) (Through given x it.event)
 
   -- no record
-  other : (question : NodeAsk) (given : NodeAnswer) → IsNoFetch (Answered true given) → (IsHearing v h more by m n question given x before bins new → Goes m m.pairs (Answered true given) new) → Hears question given
+  other : (question : NodeAsk) (given : NodeAnswer) → IsNoFetch (Answered true given) → (IsHearing v h more by m n question given x before bins new → IsWorkAfter m m.pairs (Answered true given) new) → Hears question given
   other question given none goes it =
       let step = step-of question given it in
       let goes_on = goes it in (

@@ -32,7 +32,7 @@ use Rattle.rz_operation_model.specs.Ask.{AskNode, ask_of, is_part, got, gave, re
 use Rattle.rz_operation.specs.Machine.{Machine, HasBinsFor, AreBinsFor}
 use Rattle.rz_core.specs.History.{Facts, Begun, length_in, base_in}
 use Rattle.rz_core.specs.HeldRecords.{block_of, head_at}
-use Rattle.rz_play_laws.specs.Own.{IsOwn, IsWrite, IsSending, IsWriteStage, IsFilling}
+use Rattle.rz_play_laws.specs.Own.{IsOwnOf, HasWriteEvents, IsSending, IsWriteStage, IsFilling}
 use Rattle.rz_node_laws.specs.Records.{HandsRecord, IsRecordOf}
 use Rattle.rz_node_laws.specs.Laws.{IsWrittenLaw}
 use Rattle.rz_block_laws.specs.InHand.{IsInHand, IsWriteBlock}
@@ -81,7 +81,7 @@ module _ (v : Volume) (f : Facts) (n : ℕ) (question : NodeAsk) (bins : List �
 sent-few : (kept failed forward safe many : ℕ) → kept < forward → failed + forward ≤ safe → many ≡ safe → kept + failed < many
 sent-few kept failed forward safe many few spare is = omega arith
 
-module _ (law : IsWrittenLaw) (v : Volume) (f : Facts) (o run : List Event) (by : Actor) (text : List ℕ) (s : WriterState) (own : IsWrite v f o by text s) (t : Sent) (sending : IsSending v f o by s.key s.places text t) where
+module _ (law : IsWrittenLaw) (v : Volume) (f : Facts) (o run : List Event) (by : Actor) (text : List ℕ) (s : WriterState) (own : HasWriteEvents v f o by text s) (t : Sent) (sending : IsSending v f o by s.key s.places text t) where
   abbrev position : ℕ
   position = next_position t
 
@@ -149,7 +149,7 @@ module _ (law : IsWrittenLaw) (v : Volume) (f : Facts) (o run : List Event) (by 
   are-for : (m : ℕ) (q : NodeAsk) (work : Work) (block : Option Grid) → AskNode m q ≡ AskNode n question → Are work block → HasBinsFor q → AreBinsFor (machine work block) q bins
   are-for m q work block is are = subst (λ (a : NodeAsk). HasBinsFor a → AreBinsFor (machine work block) a bins) (sym (asks-question m n q question is)) are
 
-  writing : (course : Course) (text : List ℕ) (s : WriterState) (block : Option Grid) → IsWrite v f o by text s → (stage : WriteStage) → IsWriteStage v f o by s.key s.places text stage
+  writing : (course : Course) (text : List ℕ) (s : WriterState) (block : Option Grid) → HasWriteEvents v f o by text s → (stage : WriteStage) → IsWriteStage v f o by s.key s.places text stage
       → write_asks (is_part course) text s (ask_at s stage) ≡ AskNode n question → Are (Writing course text s) block → HandsRecord v f n question bins
   writing course text s block own Beginning sending is are = absurd (cc)
   writing course text s block own (Ended e) sending is are = absurd (gave-no-node (is_part course) s.key (writer_end s) n question is)
@@ -172,7 +172,7 @@ module _ (law : IsWrittenLaw) (v : Volume) (f : Facts) (o run : List Event) (by 
       let q = ask.Refill t.fence (refill_head y (position_of m l) l.published.stamp size base l.key) in
       handed m q is (refills law v f o by m t l size base own g hand y layout bins (are-for m q (Rebuilding m (Refilling t l size base)) (Some g) is are tt))
 
-  pub hands : (work : Work) (block : Option Grid) → IsOwn v f o run by work → IsInHand v.layout f work pairs block → ask_of y work ≡ AskNode n question → Are work block → HandsRecord v f n question bins
+  pub hands : (work : Work) (block : Option Grid) → IsOwnOf v f o run by work → IsInHand v.layout f work pairs block → ask_of y work ≡ AskNode n question → Are work block → HandsRecord v f n question bins
   hands (Calling c) block own hand is are = absurd (cc)
   hands (Dropping fid m places) block own hand is are = handed m (ask.Drop fid) is tt
   hands (Opening path plan) block own hand is are = absurd (cc)

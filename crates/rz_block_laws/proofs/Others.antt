@@ -55,7 +55,7 @@ use Rattle.rz_operation_model.specs.Steps.{Told, Replied, Locked, Answered, Miss
 use Rattle.rz_operation_model.specs.Turns.{IsStep, IsNodeStep, Through, ReplyLost, RequestLost}
 use Rattle.rz_operation.specs.Answers.{pairs_in}
 use Rattle.rz_core.specs.History.{Facts}
-use Rattle.rz_play_laws.specs.Own.{GrowsTo, IsOwn, IsCopying}
+use Rattle.rz_play_laws.specs.Own.{GrowsTo, IsOwnOf, IsCopying}
 use Rattle.rz_block_laws.specs.InHand.{IsInHand, IsReadInHand, IsRebuildInHand, IsPairOf, IsWriteBlock}
 use Rattle.rz_block_laws.specs.Laws.{IsNoFetch, IsGoingLaw, IsGrowingLaw, IsBeginningLaw}
 
@@ -291,7 +291,7 @@ module _ (y : Layout) (f : Facts) (had : List Pair) where
     reading course key places z (Ended e) t hand step other =
         subst (λ (u : Told). Holds (told y (Reading course (record { layout = z; key = key; places = places; stage = Ended e })) u)) (sym step.1) (got-holds y course step.0 e)
 
-    pub holds : (v : Volume) → v.layout ≡ y → (work : Work) (t : Told) → IsOwn v f o run by work → IsInHand y f work had block → IsStep by number (ask_of y work) t xs → IsNoFetch t → Holds (told y work t)
+    pub holds : (v : Volume) → v.layout ≡ y → (work : Work) (t : Told) → IsOwnOf v f o run by work → IsInHand y f work had block → IsStep by number (ask_of y work) t xs → IsNoFetch t → Holds (told y work t)
     holds v same (Calling c) t own hand step other = calling-holds y c t
     holds v same (Dropping fid n places) t own hand step other = dropping-holds y fid n places t
     holds v same (Opening path plan) t own hand step other = opening-holds y path plan t

@@ -36,10 +36,10 @@ use Rattle.rz_client_model.specs.Write.{writer_ask, writer_end}
 use Rattle.rz_events.specs.declared.machines.WriterAsk.{WriterAsk}
 use Rattle.rz_events.specs.declared.machines.WriterAsk.TheVariants as writes
 use Rattle.rz_operation_model.specs.Steps.{Answered, told}
-use Rattle.rz_operation.specs.Answers.{Goes, IsAnswered, pairs_in, IsBlockIn}
+use Rattle.rz_operation.specs.Answers.{IsWorkAfter, FitsIfEnough, pairs_in, IsBlockIn}
 use Rattle.rz_operation.specs.Machine.{Machine}
 use Rattle.rz_core.specs.History.{Facts, IsPlace}
-use Rattle.rz_play_laws.specs.Own.{IsOwn, IsRead, IsPlacing, IsCopying}
+use Rattle.rz_play_laws.specs.Own.{IsOwnOf, HasReadEvents, IsPlacing, IsCopying}
 use Rattle.rz_node_laws.specs.Laws.{IsWrittenLaw, IsReadBack}
 use Rattle.rz_block_laws.specs.InHand.{IsInHand, IsReadInHand, IsPairOf, IsWriteBlock}
 use Rattle.rz_block_laws.specs.Laws.{IsFetchedLaw}
@@ -98,7 +98,7 @@ module _ (law : IsWrittenLaw) (v : Volume) (f : Facts) (key : Key) (places : Lis
 
 -- What the operation has in hand, where the work is one whose stage is such.
 module _ (y : Layout) (f : Facts) (key : Key) (had : List Pair) (t : Fetches) (fits : Bool) (a : FetchAnswer) (is : IsStageAfter y f key had t fits a) (old new : Machine) (works : ReadStage → Work) where
-  pub went : old.layout ≡ y → Goes old had (Answered fits (answer.Fetch a)) new → new.work ≡ works (after_fetch y fits t a)
+  pub went : old.layout ≡ y → IsWorkAfter old had (Answered fits (answer.Fetch a)) new → new.work ≡ works (after_fetch y fits t a)
       → ((u : Fetches) → pairs_in (works (Fetching u)) had ≡ had)
       → ((u : Fetches) (block : Option Grid) → u.stamp ≡ t.stamp → length had ≡ u.given → AllByRecursion (IsPairOf y f key t.stamp) had → IsInHand y f (works (Fetching u)) had block)
       → ((size : ℕ) (block : Option Grid) → IsBlockIn y had (works (Ended (mark.Found t.stamp size))) block → ((g : Grid) → IsOnly (search_of y had) g → IsWriteBlock y f key t.stamp g)
@@ -126,7 +126,7 @@ module _ (law : IsWrittenLaw) (v : Volume) (f : Facts) (o run : List Event) (by 
 
   -- what is so after it was told
   abbrev After : Layout → Work → Type 0
-  After z work = IsAnswered (record { layout = z; work = work; pairs = pairs; block = block }) (answer.Fetch a) bins new
+  After z work = FitsIfEnough (record { layout = z; work = work; pairs = pairs; block = block }) (answer.Fetch a) bins new
       → (new.work ≡ told z work (Answered true (answer.Fetch a))) × IsInHand v.layout f new.work new.pairs new.block
 
   if-held : (k : Key) (s : ℕ) → key ≡ k → stamp ≡ s → (b : FetchAnswer) → IfHeld b (λ r. (r.stamp ≡ stamp) × IsReadBack v f n key r before bins) → IfHeld b (λ r. (r.stamp ≡ s) × IsReadBack v f n k r before bins)
@@ -147,7 +147,7 @@ module _ (law : IsWrittenLaw) (v : Volume) (f : Facts) (o run : List Event) (by 
         let there : IsPlace f at.fid (next_position t) n = subst (λ (k : Key). IsPlace f k.fid (next_position t) n) keys (subst (λ (p : ℕ). IsPlace f key.fid p n) positions place) in
         stage-after law v f at places placing pairs t hand few n there before bins a (if-held at t.stamp keys stamps a back) fits fitting
 
-  reading : (course : Course) (k : Key) (places : List ℕ) (stage : ReadStage) → IsRead v f o by (record { layout = v.layout; key = k; places = places; stage = stage }) → IsReadInHand v.layout f k pairs block stage
+  reading : (course : Course) (k : Key) (places : List ℕ) (stage : ReadStage) → HasReadEvents v f o by (record { layout = v.layout; key = k; places = places; stage = stage }) → IsReadInHand v.layout f k pairs block stage
       → Asked (read_asks (is_part course) k (end_at stage) (ask_at (record { layout = v.layout; key = k; places = places; stage = stage }) stage)) → After v.layout (Reading course (record { layout = v.layout; key = k; places = places; stage = stage }))
   reading course k places Looking own hand asked answered = absurd (cc)
   reading course k places (Ended e) own hand asked answered = absurd (got-no-node (is_part course) k (Some e) n (ask.Fetch key position stamp) asked)
@@ -170,8 +170,8 @@ module _ (law : IsWrittenLaw) (v : Volume) (f : Facts) (o run : List Event) (by 
                 (λ size its found each. some-and its (IsOnly (search_of v.layout had)) (IsWriteBlock v.layout f k t.stamp) each found),
           )
 
-  reading-any : (course : Course) (s : ReaderState) → IsRead v f o by s → IsReadInHand v.layout f s.key pairs block s.stage → Asked (ask_of v.layout (Reading course s)) → After v.layout (Reading course s)
-  reading-any course s own = subst (λ (z : Layout). IsRead v f o by (record { layout = z; key = s.key; places = s.places; stage = s.stage }) → IsReadInHand v.layout f s.key pairs block s.stage
+  reading-any : (course : Course) (s : ReaderState) → HasReadEvents v f o by s → IsReadInHand v.layout f s.key pairs block s.stage → Asked (ask_of v.layout (Reading course s)) → After v.layout (Reading course s)
+  reading-any course s own = subst (λ (z : Layout). HasReadEvents v f o by (record { layout = z; key = s.key; places = s.places; stage = s.stage }) → IsReadInHand v.layout f s.key pairs block s.stage
       → Asked (read_asks (is_part course) s.key (end_at s.stage) (ask_at (record { layout = z; key = s.key; places = s.places; stage = s.stage }) s.stage))
       → After v.layout (Reading course (record { layout = z; key = s.key; places = s.places; stage = s.stage }))) (sym own.layout_is) (reading course s.key s.places s.stage) own
 
@@ -218,7 +218,7 @@ module _ (law : IsWrittenLaw) (v : Volume) (f : Facts) (o run : List Event) (by 
   writes-no-fetch part text s (writes.Publish st mask) asked = absurd (cc)
   writes-no-fetch part text s writes.End asked = gave-no-node part s.key (writer_end s) n (ask.Fetch key position stamp) asked
 
-  pub after-any : (work : Work) → IsOwn v f o run by work → IsInHand v.layout f work pairs block → Asked (ask_of v.layout work) → After v.layout work
+  pub after-any : (work : Work) → IsOwnOf v f o run by work → IsInHand v.layout f work pairs block → Asked (ask_of v.layout work) → After v.layout work
   after-any (Calling c) own hand asked = absurd (cc)
   after-any (Dropping fid m places) own hand asked = absurd (cc)
   after-any (Opening path plan) own hand asked = absurd (cc)
@@ -237,6 +237,6 @@ module _ (law : IsWrittenLaw) (v : Volume) (f : Facts) (o run : List Event) (by 
 
 pub fetched-law : IsWrittenLaw → (v : Volume) → IsFetchedLaw v
 fetched-law law v f o run by m new n key position stamp a before bins true_to asked place back answered =
-    subst (λ (z : Layout). ask_of z m.work ≡ AskNode n (ask.Fetch key position stamp) → IsAnswered (record { layout = z; work = m.work; pairs = m.pairs; block = m.block }) (answer.Fetch a) bins new
+    subst (λ (z : Layout). ask_of z m.work ≡ AskNode n (ask.Fetch key position stamp) → FitsIfEnough (record { layout = z; work = m.work; pairs = m.pairs; block = m.block }) (answer.Fetch a) bins new
     → (new.work ≡ told z m.work (Answered true (answer.Fetch a))) × IsInHand v.layout f new.work new.pairs new.block) (sym true_to.layout_is)
     (after-any law v f o run by m.pairs m.block new n key position stamp a before bins place back m.work true_to.own true_to.hand) asked answered

@@ -27,10 +27,10 @@ use Rattle.rz_operation_model.specs.Work.{Work, Over}
 use Rattle.rz_operation_model.specs.Ask.{Ask, AskNode, ask_of}
 use Rattle.rz_operation_model.specs.Steps.{Answered, told}
 use Rattle.rz_operation_model.specs.Turns.{IsStep, Through}
-use Rattle.rz_operation.specs.Answers.{Goes}
+use Rattle.rz_operation.specs.Answers.{IsWorkAfter}
 use Rattle.rz_operation.specs.Machine.{Machine}
 use Rattle.rz_core.specs.History.{Facts}
-use Rattle.rz_play_laws.specs.Own.{IsOwn, IsUnderWay, IsProper, IsOwnProper}
+use Rattle.rz_play_laws.specs.Own.{IsOwnOf, HasOwnEvents, IsProper, IsOwnProper}
 use Rattle.rz_node_laws.specs.Images.{IsImaged}
 use Rattle.rz_node_laws.specs.Laws.{IsCallLaw, IsFetchLaw, IsReadBack}
 use Rattle.rz_block_laws.specs.InHand.{IsInHand}
@@ -55,7 +55,7 @@ of-up Down o r is = absurd (cc)
 of-up Lost o r is = absurd (cc)
 
 -- an operation that asks something of a node is under way
-pub at-node : (v : Volume) (y : Layout) (f : Facts) (o run : List Event) (by : Actor) (number : ℕ) (work : Work) (n : ℕ) (question : NodeAsk) → IsOwnProper v → y ≡ v.layout → IsOwn v f o run by work → IsUnderWay v by number run work
+pub at-node : (v : Volume) (y : Layout) (f : Facts) (o run : List Event) (by : Actor) (number : ℕ) (work : Work) (n : ℕ) (question : NodeAsk) → IsOwnProper v → y ≡ v.layout → IsOwnOf v f o run by work → HasOwnEvents v by number run work
     → ask_of y work ≡ AskNode n question → IsProper v f o run by number (AskNode n question)
 at-node v y f o run by number work n question proper layout own (inl over) asked =
     let never : ask_of y Over ≡ AskNode n question = ap (ask_of y) (sym over) ∙ asked in absurd (cc)
@@ -64,13 +64,13 @@ at-node v y f o run by number work n question proper layout own (inr course) ask
 
 module _ {D : Type 0} (text : D → List ℕ) (image : D → List ℕ → Type 0) (v : Volume) (called : IsCallLaw text image) (read : IsFetchLaw text image) (proper : IsOwnProper v) (handing : IsHandingLaw v) (fetched : IsFetchedLaw v) (going : IsGoingLaw v)
     (f : Facts) (o run : List Event) (by : Actor) (number : ℕ) (m : Machine) (n cells : ℕ) (g : Geometry) (s : NodeState) (handed bins : List ℕ) (before after : D)
-    (true_to : IsTrueTo v f o run by m) (way : IsUnderWay v by number run m.work) (imaged : IsImaged v f n s g (image before)) where
+    (true_to : IsTrueTo v f o run by m) (way : HasOwnEvents v by number run m.work) (imaged : IsImaged v f n s g (image before)) where
   abbrev GoesSo : NodeAnswer → Machine → Type 0
   GoesSo given new = (new.work ≡ told m.layout m.work (Answered true given)) × IsInHand v.layout f new.work new.pairs new.block
 
   -- an answer that is no record
   other : (question : NodeAsk) (given : NodeAnswer) (x : Event) (new : Machine) → ask_of m.layout m.work ≡ AskNode n question → node_event by n question given ≡ Some x → IsNoFetch (Answered true given)
-      → Goes m m.pairs (Answered true given) new → GoesSo given new
+      → IsWorkAfter m m.pairs (Answered true given) new → GoesSo given new
   other question given x new asked event no_fetch goes = (
     goes.work,
     going f o run by number m new (Answered true given) (x ∷ []) true_to (subst (λ (a : Ask). IsStep by number a (Answered true given) (x ∷ [])) (sym asked) (Through given x event)) no_fetch goes,

@@ -11,7 +11,7 @@ use Rattle.rz_operation_model.specs.Work.{Work, Reading}
 use Rattle.rz_operation_model.specs.Steps.{Told, Replied}
 use Rattle.rz_operation.specs.Machine.{Machine}
 use Rattle.rz_core.specs.History.{Facts, Begun, facts, of_actor}
-use Rattle.rz_play_laws.specs.Own.{IsUnderWay}
+use Rattle.rz_play_laws.specs.Own.{HasOwnEvents}
 use Rattle.rz_block_laws.specs.Laws.{IsTrueTo}
 
 -- Texts.
@@ -46,5 +46,5 @@ TellsBytes f t = Unit {0}
 -- The actor's own events say how far its operation of this number has come, and what the machine has in hand is true.
 pub record IsActing (v : Volume) (h : List Event) (by : Actor) (number : ℕ) (m : Machine) : Type 0 where
   pub true_to : IsTrueTo v (facts h) (of_actor by h) (of_actor by h) by m
-  pub way : IsUnderWay v by number (of_actor by h) m.work
+  pub way : HasOwnEvents v by number (of_actor by h) m.work
   pub texts : KnowsTexts (facts h) m.work

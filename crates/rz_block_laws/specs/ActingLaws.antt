@@ -15,7 +15,7 @@ use Rattle.rz_script.specs.Lines as script
 use Rattle.rz_operation_model.specs.Ask.{Ask, AskNode, Say, Saying, ask_of}
 use Rattle.rz_operation_model.specs.Steps.{Told, Answered, begun, told}
 use Rattle.rz_operation_model.specs.Turns.{IsStep}
-use Rattle.rz_operation.specs.Answers.{IsOperation, Goes, IsAnswered}
+use Rattle.rz_operation.specs.Answers.{IsOperation, IsWorkAfter, FitsIfEnough}
 use Rattle.rz_operation.specs.Machine.{Machine, text_of}
 use Rattle.rz_core.specs.History.{facts, of_actor}
 use Rattle.rz_core.specs.Legal.{IsLegal}
@@ -47,7 +47,7 @@ pub record IsGoing (v : Volume) (h more : List Event) (by : Actor) (number : ℕ
   pub own : of_actor by (more ++ h) ≡ xs ++ of_actor by h
   pub said : AreToldBy v (facts (more ++ h)) xs
   pub bytes : TellsBytes (facts (more ++ h)) t
-  pub goes : Goes m m.pairs t new
+  pub goes : IsWorkAfter m m.pairs t new
 
 abbrev pub IsGoingLaw : Volume → Type 0
 IsGoingLaw v = (h more : List Event) (by : Actor) (number : ℕ) (m new : Machine) (t : Told) (xs : List Event)
@@ -61,7 +61,7 @@ pub record IsHearing (v : Volume) (h more : List Event) (by : Actor) (m : Machin
   pub said : IsToldBy v (facts (more ++ h)) x
   pub read : (key : Key) (position stamp : ℕ) (r : Held) → question ≡ ask.Fetch key position stamp → given ≡ answer.Fetch (fetch.Held r)
       → IsReadBack v (facts (more ++ h)) n key r before bins
-  pub answered : IsAnswered m given bins new
+  pub answered : FitsIfEnough m given bins new
 
 -- It goes on as where the records fit a block.
 abbrev pub IsHearingLaw : Volume → Type 0

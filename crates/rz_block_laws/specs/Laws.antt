@@ -25,10 +25,10 @@ use Rattle.rz_node.specs.Fetched.{IfHeld}
 use Rattle.rz_operation_model.specs.Ask.{AskNode, Say, SayGot, SayLeft, ask_of}
 use Rattle.rz_operation_model.specs.Steps.{Told, Answered, begun, told}
 use Rattle.rz_operation_model.specs.Turns.{IsStep}
-use Rattle.rz_operation.specs.Answers.{Goes, IsAnswer, IsAnswered}
+use Rattle.rz_operation.specs.Answers.{IsWorkAfter, IsAnswer, FitsIfEnough}
 use Rattle.rz_operation.specs.Machine.{Machine, HasBinsFor, AreBinsFor}
 use Rattle.rz_core.specs.History.{Facts, IsPlace}
-use Rattle.rz_play_laws.specs.Own.{GrowsTo, IsOfActor, IsOwn, IsUnderWay}
+use Rattle.rz_play_laws.specs.Own.{GrowsTo, IsOfActor, IsOwnOf, HasOwnEvents}
 use Rattle.rz_node_laws.specs.Images.{IsImaged}
 use Rattle.rz_node_laws.specs.Records.{HandsRecord}
 use Rattle.rz_node_laws.specs.Laws.{IsReadBack}
@@ -37,7 +37,7 @@ use Rattle.rz_block_laws.specs.InHand.{IsInHand}
 -- a machine of the volume's layout, of which its actor's own events say how far it has come, with what is true in hand
 pub record IsTrueTo (v : Volume) (f : Facts) (o run : List Event) (by : Actor) (m : Machine) : Type 0 where
   pub layout_is : m.layout ≡ v.layout
-  pub own : IsOwn v f o run by m.work
+  pub own : IsOwnOf v f o run by m.work
   pub hand : IsInHand v.layout f m.work m.pairs m.block
 
 -- what it hands to a node is the record of its write
@@ -58,13 +58,13 @@ IsFetchedLaw v =
     (f : Facts) (o run : List Event) (by : Actor) (m new : Machine) (n : ℕ) (key : Key) (position stamp : ℕ) (a : FetchAnswer) (before bins : List ℕ)
     → IsTrueTo v f o run by m → ask_of m.layout m.work ≡ AskNode n (ask.Fetch key position stamp) → IsPlace f key.fid position n
     → IfHeld a (λ r. (r.stamp ≡ stamp) × IsReadBack v f n key r before bins)
-    → IsAnswered m (answer.Fetch a) bins new
+    → FitsIfEnough m (answer.Fetch a) bins new
     → (new.work ≡ told m.layout m.work (Answered true (answer.Fetch a))) × IsInHand v.layout f new.work new.pairs new.block
 
 -- it was told anything else
 abbrev pub IsGoingLaw : Volume → Type 0
 IsGoingLaw v = (f : Facts) (o run : List Event) (by : Actor) (number : ℕ) (m new : Machine) (t : Told) (xs : List Event)
-    → IsTrueTo v f o run by m → IsStep by number (ask_of m.layout m.work) t xs → IsNoFetch t → Goes m m.pairs t new
+    → IsTrueTo v f o run by m → IsStep by number (ask_of m.layout m.work) t xs → IsNoFetch t → IsWorkAfter m m.pairs t new
     → IsInHand v.layout f new.work new.pairs new.block
 
 -- the log grew
@@ -98,14 +98,14 @@ pub record IsMessage {D : Type 0} (text : D → List ℕ) (image : D → List �
 -- The machine was told the answer, which has this event.
 pub record IsAnswerTold (by : Actor) (m : Machine) (n : ℕ) (question : NodeAsk) (given : NodeAnswer) (bins : List ℕ) (x : Event) (new : Machine) : Type 0 where
   pub event : node_event by n question given ≡ Some x
-  pub answered : IsAnswered m given bins new
+  pub answered : FitsIfEnough m given bins new
 
 -- What comes of a message: the images of the disk are the node's again, and where the machine was told the answer, it goes on
 -- as the model says and what it has in hand is true again.
 abbrev pub IsMessageLaw : {D : Type 0} → (D → List ℕ) → (D → List ℕ → Type 0) → Volume → Type 0
 IsMessageLaw {D = D} text image v =
     (f : Facts) (o run : List Event) (by : Actor) (number : ℕ) (m : Machine) (n cells : ℕ) (g : Geometry) (s : NodeState) (question : NodeAsk) (given : NodeAnswer) (handed bins : List ℕ) (before after : D)
-    → IsTrueTo v f o run by m → IsUnderWay v by number run m.work
+    → IsTrueTo v f o run by m → HasOwnEvents v by number run m.work
     → IsMessage text image m n cells g s question given handed bins before after → IsImaged v f n s g (image before)
     → IsImaged v f n (after_answer question given s) g (image after)
     × ((x : Event) (new : Machine) → IsAnswerTold by m n question given bins x new

@@ -11,10 +11,10 @@ use Rattle.rz_cells_slots.specs.declared.geometry.Geometry.{Geometry}
 use Rattle.rz_operation_model.specs.Ask.{ask_of}
 use Rattle.rz_operation_model.specs.Steps.{Told}
 use Rattle.rz_operation_model.specs.Turns.{IsStep}
-use Rattle.rz_operation.specs.Answers.{Goes, IsAnswerTo}
+use Rattle.rz_operation.specs.Answers.{IsWorkAfter, IsAnswerTo}
 use Rattle.rz_operation.specs.Machine.{Machine}
 use Rattle.rz_core.specs.History.{Facts, facts}
-use Rattle.rz_play_laws.specs.Own.{IsUnderWay}
+use Rattle.rz_play_laws.specs.Own.{HasOwnEvents}
 use Rattle.rz_node_laws.specs.Images.{IsImaged}
 use Rattle.rz_block_laws.specs.InHand.{IsInHand}
 use Rattle.rz_block_laws.specs.Laws.{IsTrueTo, IsNoFetch, IsMessage, IsAnswerTold}
@@ -25,7 +25,7 @@ pub record IsTrueActor (v : Volume) (f : Facts) (by : Actor) (m : Machine) : Typ
   pub run : List Event
   pub number : ℕ
   pub true_to : IsTrueTo v f own run by m
-  pub way : IsUnderWay v by number run m.work
+  pub way : HasOwnEvents v by number run m.work
 
 -- what a machine has in hand is true
 abbrev pub HasInHand : Volume → Facts → Machine → Type 0
@@ -38,7 +38,7 @@ IsLastingLaw v = (h more : List Event) (m : Machine) → HasInHand v (facts h) m
 -- the operation was told anything but a record
 abbrev pub IsToldLaw : Volume → Type 0
 IsToldLaw v = (h more : List Event) (by : Actor) (number : ℕ) (m new : Machine) (t : Told) (xs : List Event)
-    → IsTrueActor v (facts h) by m → IsStep by number (ask_of m.layout m.work) t xs → IsNoFetch t → Goes m m.pairs t new
+    → IsTrueActor v (facts h) by m → IsStep by number (ask_of m.layout m.work) t xs → IsNoFetch t → IsWorkAfter m m.pairs t new
     → HasInHand v (facts (more ++ h)) new
 
 -- A node was sent a message and has answered: the images of its disk are its own again, the answer is one to what was asked,

@@ -18,7 +18,7 @@ use Rattle.rz_core.specs.Longer.{IsNextRun}
 use Rattle.rz_chronicle.specs.Keys.{touches, events_at, count_at, word_key, actor_key, IsLater}
 use Rattle.rz_chronicle.specs.Kinds.{history, HasPlace, HavePlaces, MayFit, volume_in}
 use Rattle.rz_chronicle.specs.Laws.{IsLocalAfter}
-use Rattle.rz_chronicle.specs.Tokens.{at, Agree, IsHolding, HasCount, Covers, MayFollow, counts}
+use Rattle.rz_chronicle.specs.Tokens.{at, Agree, IsHolding, HasCount, Covers, KeepsBookKind, counts}
 use Rattle.rz_chronicle.specs.Holds.{keys, Stays}
 use Rattle.rz_chronicle.proofs.Keys.{count-append}
 
@@ -169,7 +169,7 @@ local-after local next v earlier h more x legal foreign-all allowed =
 
 -- what may come may follow all that others add
 pub follows : ((v : Volume) → IsLocal v) → ((v : Volume) → IsLocalAfter v) → (kind : List ℕ) (held : List (ℕ × ℕ)) (log : List Event) (x : Event) → held ≡ at (counts log) held → Covers held x
-    → MayFit kind (history log) x → MayFollow kind held log x
+    → MayFit kind (history log) x → KeepsBookKind kind held log x
 follows local local_after kind held log x right covers may xs p agree fit =
     let v : Volume = volume_in kind in
     let w : count_at (word_key (word_of x)) xs ≡ count_at (word_key (word_of x)) log = same-held held (counts log) (counts xs) (word_key (word_of x)) right agree covers.0 in

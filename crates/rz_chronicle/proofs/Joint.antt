@@ -5,7 +5,7 @@ use Rattle.rz_events.specs.declared.events.Event.{Event}
 use Rattle.rz_events.specs.Events.{word_of}
 use Rattle.rz_chronicle.specs.Keys.{count_at, word_key}
 use Rattle.rz_chronicle.specs.Kinds.{history}
-use Rattle.rz_chronicle.specs.Tokens.{at, Agree, AllInRow, IsHolding, Ends, counts, without, count_in}
+use Rattle.rz_chronicle.specs.Tokens.{at, Agree, AllInRow, IsHolding, EndsOnEvent, counts, without, count_in}
 use Rattle.rz_chronicle.specs.Holds.{keys, Commits}
 use Rattle.rz_chronicle.proofs.Keys.{count-same, touches-own}
 use Rattle.rz_chronicle.proofs.TokenLaws.{committed}
@@ -38,13 +38,13 @@ first-without f k n mine held is = ap (without k) is ∙ rw (same-number k) refl
 pub first-held : (f : ℕ → ℕ) (k n : ℕ) (mine held : List (ℕ × ℕ)) → held ≡ at f ((k, n) ∷ mine) → IsHolding k held
 first-held f k n mine held is = subst (IsHolding k) (sym is) (inl refl)
 
-pub moved-by-one : (k n : ℕ) (mine held : List (ℕ × ℕ)) (x : Event) (log new : List Event) → held ≡ (k, n) ∷ mine → word_key (word_of x) ≡ k → Ends held log x new → count_at k new ≡ n + 1
+pub moved-by-one : (k n : ℕ) (mine held : List (ℕ × ℕ)) (x : Event) (log new : List Event) → held ≡ (k, n) ∷ mine → word_key (word_of x) ≡ k → EndsOnEvent held log x new → count_at k new ≡ n + 1
 moved-by-one k n mine held x log new is key e =
     let agree : Agree (counts e.0) ((k, n) ∷ mine) = subst (Agree (counts e.0)) is e.2 in
     let one : count_at k (e.0 ++ x ∷ []) ≡ count_at k e.0 + 1 = subst (λ (j : ℕ). count_at j (e.0 ++ x ∷ []) ≡ count_at j e.0 + 1) key (count-same (word_key (word_of x)) e.0 x (touches-own x)) in
     ap (count_at k) e.3 ∙ (one ∙ ap (λ (m : ℕ). m + 1) agree.0)
 
-pub both-commit : (k n : ℕ) (mine held : List (ℕ × ℕ)) (x : Event) (log new : List Event) → held ≡ (k, n) ∷ mine → held ≡ at (counts log) held → Ends held log x new
+pub both-commit : (k n : ℕ) (mine held : List (ℕ × ℕ)) (x : Event) (log new : List Event) → held ≡ (k, n) ∷ mine → held ≡ at (counts log) held → EndsOnEvent held log x new
     → Commits (k ∷ keys mine) (history log) x (history new)
 both-commit k n mine held x log new is right e =
     subst (λ (ks : List ℕ). Commits ks (history log) x (history new)) (ap keys is) (committed held log new x right e)

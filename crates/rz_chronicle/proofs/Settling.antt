@@ -6,7 +6,7 @@ use Rattle.std.proofs.lemmas.List.{append_assoc}
 use Rattle.rz_events.specs.declared.events.Event.{Event}
 use Rattle.rz_chronicle.specs.Keys.{word_key, IsOneOf, IsLater}
 use Rattle.rz_chronicle.specs.Kinds.{IsFit}
-use Rattle.rz_chronicle.specs.Holds.{Stays, IsSettled}
+use Rattle.rz_chronicle.specs.Holds.{Stays, IsWordSettled}
 use Rattle.rz_chronicle.specs.Rules.{PassView, WordTokenView}
 
 abbrev pub word_token_keys : List WordTokenView → List ℕ
@@ -18,7 +18,7 @@ pub record Settled (kind : List ℕ) (old : PassView) (done : List WordTokenView
   pub keys : new.keys ≡ old.keys ++ word_token_keys done
   pub later : IsLater old.log new.log
   pub stays : Stays old.keys old.log new.log
-  pub settles : AllByRecursion (λ (p : WordTokenView). IsSettled p new.log) done
+  pub settles : AllByRecursion (λ (p : WordTokenView). IsWordSettled p new.log) done
   pub fit : IsFit kind new.log
   pub apart : IsDistinct nat_eq new.keys
 
@@ -39,7 +39,7 @@ later-still a b c p q = (q.0 ++ p.0, q.1 ∙ (ap (λ (l : List Event). q.0 ++ l)
 
 -- what was settled stays so
 settled-still : (ps : List WordTokenView) (mid new : List Event) (ks : List ℕ) → ((p : ℕ) → IsOneOf p (word_token_keys ps) → IsOneOf p ks) → IsLater mid new → Stays ks mid new
-    → AllByRecursion (λ (p : WordTokenView). IsSettled p mid) ps → AllByRecursion (λ (p : WordTokenView). IsSettled p new) ps
+    → AllByRecursion (λ (p : WordTokenView). IsWordSettled p mid) ps → AllByRecursion (λ (p : WordTokenView). IsWordSettled p new) ps
 settled-still [] mid new ks among later stays all = tt
 settled-still (p ∷ ps) mid new ks among later stays all = (
   (later-still p.log mid new all.0.0 later, λ k is. stays k (among k (elim is [ inl e ↦ inl e | inr more ↦ absurd more ])) ∙ all.0.1 k is),
@@ -56,14 +56,14 @@ keys-more (x ∷ xs) y = ap (λ (r : List ℕ). word_key x.word ∷ r) (keys-mor
 
 -- one more
 pub settled-more : (kind : List ℕ) (old : PassView) (done : List WordTokenView) (mid : PassView) (p : WordTokenView) (new : PassView) → Settled kind old done mid
-    → new.actor ≡ mid.actor → new.keys ≡ mid.keys ++ word_key p.word ∷ [] → IsLater mid.log new.log → Stays mid.keys mid.log new.log → IsSettled p new.log → IsFit kind new.log → IsDistinct nat_eq new.keys
+    → new.actor ≡ mid.actor → new.keys ≡ mid.keys ++ word_key p.word ∷ [] → IsLater mid.log new.log → Stays mid.keys mid.log new.log → IsWordSettled p new.log → IsFit kind new.log → IsDistinct nat_eq new.keys
     → Settled kind old (done ++ p ∷ []) new
 settled-more kind old done mid p new s actor keys later stays settles fit apart = record {
   actor = actor ∙ s.actor;
   keys = keys ∙ (ap (λ (ks : List ℕ). ks ++ word_key p.word ∷ []) s.keys ∙ (append_assoc old.keys (word_token_keys done) (word_key p.word ∷ []) ∙ ap (λ (ks : List ℕ). old.keys ++ ks) (sym (keys-more done p))));
   later = later-still old.log mid.log new.log s.later later;
   stays = λ k is. stays k (subst (IsOneOf k) (sym s.keys) (one-of-left k old.keys (word_token_keys done) is)) ∙ s.stays k is;
-  settles = all-more (λ (q : WordTokenView). IsSettled q new.log) done p
+  settles = all-more (λ (q : WordTokenView). IsWordSettled q new.log) done p
       (settled-still done mid.log new.log mid.keys (λ k is. subst (IsOneOf k) (sym s.keys) (one-of-right k old.keys (word_token_keys done) is)) later stays s.settles) settles;
   fit = fit;
   apart = apart;

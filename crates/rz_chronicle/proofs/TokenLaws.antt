@@ -10,8 +10,8 @@ use Rattle.rz_events.specs.Events.{by_of, word_of}
 use Rattle.rz_chronicle.specs.declared.tokens.Tokens.{Tokens}
 use Rattle.rz_chronicle.specs.Keys.{touches, count_at, events_at, IsOneOf, IsMember, word_key, actor_key, owner, key_at, key_of_owner, rows}
 use Rattle.rz_chronicle.specs.Kinds.{history, MayFit}
-use Rattle.rz_chronicle.specs.Tokens.{at, Agree, AllInRow, IsHolding, HasCount, Covers, Ends, counts}
-use Rattle.rz_chronicle.specs.Holds.{keys, keys_in, AreTokens, IsOwn, IsRight, IsShared, Commits}
+use Rattle.rz_chronicle.specs.Tokens.{at, Agree, AllInRow, IsHolding, HasCount, Covers, EndsOnEvent, counts}
+use Rattle.rz_chronicle.specs.Holds.{keys, keys_in, AreTokens, AreTokensOf, AreTokensRight, IsShared, Commits}
 use Rattle.rz_chronicle.proofs.Keys.{at-at, at-keys, at-holding, count-same, touches-own, touches-other, count-append}
 use Rattle.rz_chronicle.proofs.Histories.{later, history-more, stays, count-held, same-held, count_history}
 
@@ -42,7 +42,7 @@ member-actor-low (Client c) m = omega (arith, m.1)
 member-actor-low (Rebuilder r) m = omega (arith, m.1)
 member-actor-low Admin m = omega arith
 
-pub tokens-right : (δ η : ℕ) (kind : List ℕ) (log : List Event) (h : Tokens) → AreTokens δ η kind log h → IsRight h
+pub tokens-right : (δ η : ℕ) (kind : List ℕ) (log : List Event) (h : Tokens) → AreTokens δ η kind log h → AreTokensRight h
 tokens-right δ η kind log h is = record { right = subst (λ (l : List Event). h.held ≡ at (counts l) h.held) (sym is.log_is) is.right; low = is.low }
 
 pub tokens-may : (δ η : ℕ) (kind : List ℕ) (log : List Event) (x : Event) (h : Tokens) → AreTokens δ η kind log h → MayFit kind (history log) x → MayFit h.kind (history h.log) x
@@ -50,9 +50,9 @@ tokens-may δ η kind log x h is may = subst (λ (l : List Event). MayFit h.kind
 
 -- the tokens after a step
 pub tokens-after : (δ η : ℕ) (kind : List ℕ) (xs ys : List Event) (h r : Tokens) → AreTokens δ η kind xs h
-    → r.tallies ≡ h.tallies → r.copy ≡ h.copy → r.kind ≡ h.kind → r.held ≡ at (counts ys) h.held → r.log ≡ ys → AreTokens δ η kind ys r
+    → r.counters ≡ h.counters → r.copy ≡ h.copy → r.kind ≡ h.kind → r.held ≡ at (counts ys) h.held → r.log ≡ ys → AreTokens δ η kind ys r
 tokens-after δ η kind xs ys h r is a b c d e = record {
-  tallies_is = a ∙ is.tallies_is;
+  counters_is = a ∙ is.counters_is;
   copy_is = b ∙ is.copy_is;
   kind_is = c ∙ is.kind_is;
   log_is = e;
@@ -60,10 +60,10 @@ tokens-after δ η kind xs ys h r is a b c d e = record {
   low = subst AllInRow (sym d) (at-keys (λ (k : ℕ). k < rows) (counts ys) h.held is.low);
 }
 
-pub own-after : (a : Actor) (f : ℕ → ℕ) (held more : List (ℕ × ℕ)) → more ≡ at f held → IsOwn a held → IsOwn a more
-own-after a f held more e own = subst (IsOwn a) (sym e) (record { own = at-holding (word_key (Own a)) f held own.own; by = at-holding (actor_key a) f held own.by })
+pub own-after : (a : Actor) (f : ℕ → ℕ) (held more : List (ℕ × ℕ)) → more ≡ at f held → AreTokensOf a held → AreTokensOf a more
+own-after a f held more e own = subst (AreTokensOf a) (sym e) (record { own = at-holding (word_key (Own a)) f held own.own; by = at-holding (actor_key a) f held own.by })
 
-pub committed : (held : List (ℕ × ℕ)) (xs new : List Event) (x : Event) → held ≡ at (counts xs) held → Ends held xs x new → Commits (keys held) (history xs) x (history new)
+pub committed : (held : List (ℕ × ℕ)) (xs new : List Event) (x : Event) → held ≡ at (counts xs) held → EndsOnEvent held xs x new → Commits (keys held) (history xs) x (history new)
 committed held xs new x right e = record {
   before = history e.0;
   later = later xs e.0 e.1;
@@ -73,16 +73,16 @@ committed held xs new x right e = record {
 
 -- the word of the event has moved by one
 pub moved-on : (held : List (ℕ × ℕ)) (xs new : List Event) (x : Event) (n : ℕ) → held ≡ at (counts xs) held → IsHolding (word_key (word_of x)) held
-    → n ≡ count_at (word_key (word_of x)) xs → Ends held xs x new → n + 1 ≡ count_at (word_key (word_of x)) new
+    → n ≡ count_at (word_key (word_of x)) xs → EndsOnEvent held xs x new → n + 1 ≡ count_at (word_key (word_of x)) new
 moved-on held xs new x n right has is e =
     let k : ℕ = word_key (word_of x) in
     ap (λ (m : ℕ). m + 1) (is ∙ sym (same-held held (counts xs) (counts e.0) k right e.2 has)) ∙ (sym (count-same k e.0 x (touches-own x)) ∙ ap (count_at k) (sym e.3))
 
 -- the tokens of the actor cover its own events
-pub covers : (a : Actor) (held : List (ℕ × ℕ)) (x : Event) → word_of x ≡ Own a → by_of x ≡ a → IsOwn a held → Covers held x
+pub covers : (a : Actor) (held : List (ℕ × ℕ)) (x : Event) → word_of x ≡ Own a → by_of x ≡ a → AreTokensOf a held → Covers held x
 covers a held x w b own = (subst (λ v. IsHolding (word_key v) held) (sym w) own.own, subst (λ v. IsHolding (actor_key v) held) (sym b) own.by)
 
-pub has-own : (a : Actor) (held : List (ℕ × ℕ)) (xs : List Event) (x : Event) (n : ℕ) → word_of x ≡ Own a → held ≡ at (counts xs) held → IsOwn a held
+pub has-own : (a : Actor) (held : List (ℕ × ℕ)) (xs : List Event) (x : Event) (n : ℕ) → word_of x ≡ Own a → held ≡ at (counts xs) held → AreTokensOf a held
     → n ≡ count_at (word_key (Own a)) xs → HasCount held (word_key (word_of x)) n
 has-own a held xs x n w right own is =
     subst (λ v. HasCount held (word_key v) n) (sym w) (subst (HasCount held (word_key (Own a))) (sym is) (count-held held (counts xs) (word_key (Own a)) right own.own))
@@ -105,7 +105,7 @@ shared-apart (Node n) s a e = absurd (omega (arith, e))
 shared-apart (Own b) s a e = absurd s
 
 -- an event of a shared word leaves the actor's own word where it was
-pub own-stays : (a : Actor) (held : List (ℕ × ℕ)) (xs new : List Event) (x : Event) → IsShared (word_of x) → IsOwn a held → Commits (keys held) (history xs) x (history new)
+pub own-stays : (a : Actor) (held : List (ℕ × ℕ)) (xs new : List Event) (x : Event) → IsShared (word_of x) → AreTokensOf a held → Commits (keys held) (history xs) x (history new)
     → count_at (word_key (Own a)) xs ≡ count_at (word_key (Own a)) new
 own-stays a held xs new x shared own c =
     let k : ℕ = word_key (Own a) in
@@ -145,13 +145,13 @@ pub holding-left : (k : ℕ) (xs ys : List (ℕ × ℕ)) → IsHolding k xs → 
 holding-left k [] ys h = absurd h
 holding-left k (x ∷ xs) ys h = elim h [ inl e ↦ inl e | inr rest ↦ inr (holding-left k xs ys rest) ]
 
-pub own-left : (a : Actor) (xs ys : List (ℕ × ℕ)) → IsOwn a xs → IsOwn a (xs ++ ys)
+pub own-left : (a : Actor) (xs ys : List (ℕ × ℕ)) → AreTokensOf a xs → AreTokensOf a (xs ++ ys)
 own-left a xs ys own = record { own = holding-left (word_key (Own a)) xs ys own.own; by = holding-left (actor_key a) xs ys own.by }
 
 pub tokens-made : (δ η : ℕ) (kind : List ℕ) (ys : List Event) (held : List (ℕ × ℕ)) (r : Tokens)
-    → r.tallies ≡ δ → r.copy ≡ η → r.kind ≡ kind → r.held ≡ at (counts ys) held → r.log ≡ ys → AllInRow held → AreTokens δ η kind ys r
+    → r.counters ≡ δ → r.copy ≡ η → r.kind ≡ kind → r.held ≡ at (counts ys) held → r.log ≡ ys → AllInRow held → AreTokens δ η kind ys r
 tokens-made δ η kind ys held r a b c d e low = record {
-  tallies_is = a;
+  counters_is = a;
   copy_is = b;
   kind_is = c;
   log_is = e;
@@ -160,7 +160,7 @@ tokens-made δ η kind ys held r a b c d e low = record {
 }
 
 -- the own word of the actor stands where it stood
-pub own-same : (a : Actor) (held : List (ℕ × ℕ)) (xs ys : List Event) → held ≡ at (counts xs) held → Agree (counts ys) held → IsOwn a held
+pub own-same : (a : Actor) (held : List (ℕ × ℕ)) (xs ys : List Event) → held ≡ at (counts xs) held → Agree (counts ys) held → AreTokensOf a held
     → count_at (word_key (Own a)) xs ≡ count_at (word_key (Own a)) ys
 own-same a held xs ys right agree own = sym (same-held held (counts xs) (counts ys) (word_key (Own a)) right agree own.own)
 
@@ -174,36 +174,36 @@ pub word_token-count : (δ η : ℕ) (kind : List ℕ) (k n : ℕ) (xs : List Ev
 word_token-count δ η kind k n xs None h = absurd h
 word_token-count δ η kind k n xs (Some tokens) h = one-count k n (counts xs) tokens.held h.1 h.0.right
 
-pub own-key : (δ η : ℕ) (kind : List ℕ) (a : Actor) (xs : List Event) (o : Option Tokens) → IsSomeAnd o (λ h. AreTokens δ η kind xs h × IsOwn a h.held) → IsOneOf (actor_key a) (keys_in o)
+pub own-key : (δ η : ℕ) (kind : List ℕ) (a : Actor) (xs : List Event) (o : Option Tokens) → IsSomeAnd o (λ h. AreTokens δ η kind xs h × AreTokensOf a h.held) → IsOneOf (actor_key a) (keys_in o)
 own-key δ η kind a xs None h = absurd h
 own-key δ η kind a xs (Some tokens) h = holding-key (actor_key a) tokens.held h.1.by
 
-pub own-word : (δ η : ℕ) (kind : List ℕ) (a : Actor) (xs : List Event) (o : Option Tokens) → IsSomeAnd o (λ h. AreTokens δ η kind xs h × IsOwn a h.held) → IsOneOf (word_key (Own a)) (keys_in o)
+pub own-word : (δ η : ℕ) (kind : List ℕ) (a : Actor) (xs : List Event) (o : Option Tokens) → IsSomeAnd o (λ h. AreTokens δ η kind xs h × AreTokensOf a h.held) → IsOneOf (word_key (Own a)) (keys_in o)
 own-word δ η kind a xs None h = absurd h
 own-word δ η kind a xs (Some tokens) h = holding-key (word_key (Own a)) tokens.held h.1.own
 
 -- The first of an actor's tokens and of a word's.
 
-pub pass-first : (δ η : ℕ) (kind : List ℕ) (a : Actor) (h : Tokens) → h.tallies ≡ δ → h.copy ≡ η → h.kind ≡ kind → h.log ≡ [] → h.held ≡ (word_key (Own a), 0) ∷ (actor_key a, 0) ∷ []
-    → IsMember a → AreTokens δ η kind [] h × IsOwn a h.held
+pub pass-first : (δ η : ℕ) (kind : List ℕ) (a : Actor) (h : Tokens) → h.counters ≡ δ → h.copy ≡ η → h.kind ≡ kind → h.log ≡ [] → h.held ≡ (word_key (Own a), 0) ∷ (actor_key a, 0) ∷ []
+    → IsMember a → AreTokens δ η kind [] h × AreTokensOf a h.held
 pass-first δ η kind a h t c k l is member =
     let two : List (ℕ × ℕ) = (word_key (Own a), 0) ∷ (actor_key a, 0) ∷ [] in (
       record {
-        tallies_is = t;
+        counters_is = t;
         copy_is = c;
         kind_is = k;
         log_is = l;
         right = is ∙ ap (at (counts [])) (sym is);
         low = subst AllInRow (sym is) (member-low a member, (member-actor-low a member, tt));
       },
-      subst (IsOwn a) (sym is) (record { own = inl refl; by = inr (inl refl) }),
+      subst (AreTokensOf a) (sym is) (record { own = inl refl; by = inr (inl refl) }),
     )
 
-pub word_token-first : (δ η : ℕ) (kind : List ℕ) (k : ℕ) (h : Tokens) → h.tallies ≡ δ → h.copy ≡ η → h.kind ≡ kind → h.log ≡ [] → h.held ≡ (k, 0) ∷ [] → k < rows
+pub word_token-first : (δ η : ℕ) (kind : List ℕ) (k : ℕ) (h : Tokens) → h.counters ≡ δ → h.copy ≡ η → h.kind ≡ kind → h.log ≡ [] → h.held ≡ (k, 0) ∷ [] → k < rows
     → AreTokens δ η kind [] h × (h.held ≡ (k, 0) ∷ [])
 word_token-first δ η kind k h t c n l is low = (
   record {
-    tallies_is = t;
+    counters_is = t;
     copy_is = c;
     kind_is = n;
     log_is = l;
@@ -218,7 +218,7 @@ keys-holding k [] one = one
 keys-holding k (x ∷ held) one = elim one [ inl e ↦ inl e | inr rest ↦ inr (keys-holding k held rest) ]
 
 -- a tokens is that of another actor too, whose tallies it has
-pub own-other : (δ η : ℕ) (kind : List ℕ) (log : List Event) (a b : Actor) (o : Option Tokens) → IsSomeAnd o (λ h. AreTokens δ η kind log h × IsOwn a h.held)
-    → IsOneOf (word_key (Own b)) (keys_in o) → IsOneOf (actor_key b) (keys_in o) → IsSomeAnd o (λ h. AreTokens δ η kind log h × IsOwn b h.held)
+pub own-other : (δ η : ℕ) (kind : List ℕ) (log : List Event) (a b : Actor) (o : Option Tokens) → IsSomeAnd o (λ h. AreTokens δ η kind log h × AreTokensOf a h.held)
+    → IsOneOf (word_key (Own b)) (keys_in o) → IsOneOf (actor_key b) (keys_in o) → IsSomeAnd o (λ h. AreTokens δ η kind log h × AreTokensOf b h.held)
 own-other δ η kind log a b None is own by = is
 own-other δ η kind log a b (Some h) is own by = (is.0, record { own = keys-holding (word_key (Own b)) h.held own; by = keys-holding (actor_key b) h.held by })

@@ -28,7 +28,7 @@ use Rattle.rz_events.specs.declared.events.Event.{Event}
 use Rattle.rz_chronicle.specs.declared.told.Told.{Told}
 use Rattle.rz_chronicle.specs.Keys.{rows, IsInRow}
 use Rattle.rz_chronicle.specs.Kinds.{HasPlace, Fits}
-use Rattle.rz_chronicle.specs.Tokens.{halves, parts, at, Agree, AreApart, counts, grown, kept, tokens_own, gained, AllInRow, IsHolding, IsOfKind, Covers, MayFollow, zeros, without, count_in}
+use Rattle.rz_chronicle.specs.Tokens.{halves, parts, at, Agree, AreKeysApart, counts, grown, kept, tokens_own, gained, AllInRow, IsHolding, IsOfKind, Covers, KeepsBookKind, zeros, without, count_in}
 use Rattle.rz_chronicle.specs.Rules.{IsMove}
 use Rattle.rz_chronicle.proofs.Keys.{outside, at-at, at-keys}
 use Rattle.rz_chronicle.proofs.Histories.{placed-more}
@@ -82,11 +82,11 @@ none-equal k (x ∷ held) none = (
   none-equal k held (λ h. none (inr h)),
 )
 
-apart-first : AreApart []
+apart-first : AreKeysApart []
 unfolding IsDistinct
 apart-first = tt
 
-apart-more : (x : ℕ × ℕ) (held : List (ℕ × ℕ)) → (IsHolding x.0 held → ⊥) → AreApart held → AreApart (x ∷ held)
+apart-more : (x : ℕ × ℕ) (held : List (ℕ × ℕ)) → (IsHolding x.0 held → ⊥) → AreKeysApart held → AreKeysApart (x ∷ held)
 apart-more x held none rest = IsDistinct-cons nat_eq x.0 (map (λ (y : ℕ × ℕ). y.0) held) (none-equal x.0 held none) rest
 
 module _ {M : Type 1} {𝓤 : Ura M} (𝓛 : Logic 𝓤) (δ : ℕ) where
@@ -193,12 +193,12 @@ module _ {M : Type 1} {𝓤 : Ura M} (𝓛 : Logic 𝓤) (δ : ℕ) where
 
   -- so no key of a set of tokens is held twice
   alone : (n : ℕ) (f : ℕ → ℕ) (held : List (ℕ × ℕ)) → AllByRecursion (λ (x : ℕ × ℕ). x.0 < n) held
-      → ⟦ halves δ 0 n f ⟧ ∗ ⟦ parts δ held ⟧ ⊢ upd 𝓤 (⟦ halves δ 0 n f ⟧ ∗ ⟦ fsep (parts δ held) (fact (AreApart held)) ⟧)
-  alone n f [] low = let Z : Pr = ⟦ halves δ 0 n f ⟧ ∗ ⟦ fsep (parts δ []) (fact (AreApart [])) ⟧ in
+      → ⟦ halves δ 0 n f ⟧ ∗ ⟦ parts δ held ⟧ ⊢ upd 𝓤 (⟦ halves δ 0 n f ⟧ ∗ ⟦ fsep (parts δ held) (fact (AreKeysApart held)) ⟧)
+  alone n f [] low = let Z : Pr = ⟦ halves δ 0 n f ⟧ ∗ ⟦ fsep (parts δ []) (fact (AreKeysApart [])) ⟧ in
       qed 𝓛 (‵ (halves δ 0 n f) ∷ ‵ (parts δ []) ∷ []) ∵ suffices ! _ (upd_i 𝓤 Z) $
-      nothing ! $ fpack ! (AreApart []) (λ _. ftrue) apart-first $ move ! (2 ∷ 0 ∷ []) $ fjoin ! $ move ! (1 ∷ 0 ∷ []) $ done !
-  alone n f (x ∷ held) low = let Z : Pr = ⟦ halves δ 0 n f ⟧ ∗ ⟦ fsep (parts δ (x ∷ held)) (fact (AreApart (x ∷ held))) ⟧ in
-      let more : Fml = fsep (parts δ held) (fact (AreApart held)) in
+      nothing ! $ fpack ! (AreKeysApart []) (λ _. ftrue) apart-first $ move ! (2 ∷ 0 ∷ []) $ fjoin ! $ move ! (1 ∷ 0 ∷ []) $ done !
+  alone n f (x ∷ held) low = let Z : Pr = ⟦ halves δ 0 n f ⟧ ∗ ⟦ fsep (parts δ (x ∷ held)) (fact (AreKeysApart (x ∷ held))) ⟧ in
+      let more : Fml = fsep (parts δ held) (fact (AreKeysApart held)) in
       elim (is-held x.0 held) [
         | inl h ↦ qed 𝓛 (‵ (halves δ 0 n f) ∷ ‵ (parts δ (x ∷ held)) ∷ []) ∵ move ! (1 ∷ []) $ fsplit ! $ move ! (1 ∷ []) $
             use1 𝓛 (‵ (part δ x.0 quarter (count_in x.0 held)) ⊛ ‵ (parts δ (without x.0 held))) (out x.0 held h) $ split ! $
@@ -209,7 +209,7 @@ module _ {M : Type 1} {𝓤 : Ura M} (𝓛 : Logic 𝓤) (δ : ℕ) where
             settle 𝓛 Z (‵ (halves δ 0 n f) ⊛ ‵ more) $ split ! $ suffices ! _ (upd_i 𝓤 Z) $
             -- halves, the others, the first
             move ! (1 ∷ []) $ fsplit ! $ move ! (1 ∷ []) $ fpick ! (λ rest. drop ! $ move ! (2 ∷ 0 ∷ []) $
-            fjoin ! $ nothing ! $ fpack ! (AreApart (x ∷ held)) (λ _. ftrue) (apart-more x held none rest) $ move ! (1 ∷ 0 ∷ []) $ fjoin ! $ move ! (1 ∷ 0 ∷ []) $ done !)
+            fjoin ! $ nothing ! $ fpack ! (AreKeysApart (x ∷ held)) (λ _. ftrue) (apart-more x held none rest) $ move ! (1 ∷ 0 ∷ []) $ fjoin ! $ move ! (1 ∷ 0 ∷ []) $ done !)
       ]
 
   -- at the start each of n tokens is 0
@@ -223,7 +223,7 @@ module _ {M : Type 1} {𝓤 : Ura M} (𝓛 : Logic 𝓤) (δ : ℕ) where
 
   -- what a step may do: its event stands next, or nothing does
   abbrev May : List ℕ → List (ℕ × ℕ) → List Event → Event → Type 0
-  May kind held log ask = IsInRow ask → Covers held ask × MayFollow kind held log ask × HasPlace kind ask
+  May kind held log ask = IsInRow ask → Covers held ask × KeepsBookKind kind held log ask × HasPlace kind ask
 
   record Goes (kind : List ℕ) (held : List (ℕ × ℕ)) (xs ys : List Event) : Type 0 where
     outer : (k : ℕ) → mathlib.Core.Logic.◌⊎◌ (IsHolding k held) (counts xs k ≡ counts ys k)
@@ -248,8 +248,8 @@ module _ {M : Type 1} {𝓤 : Ura M} (𝓛 : Logic 𝓤) (δ : ℕ) where
   trade η kind held log ask low may xs ys won m =
       let c = the_row.coded.code in let Z : Pr = ⟦ kept (δ ∷ η ∷ kind) ys ⟧ ∗ ⟦ gained (δ ∷ η ∷ kind) held xs ys ⟧ in
       let mine : Fml = fsep (parts δ (at (counts xs) held)) (fact (Agree (counts xs) held)) in
-      let single : Fml = fsep (parts δ held) (fact (AreApart held)) in
-      let all : Type 0 = Agree (counts xs) held × IsOfKind kind ys × AreApart held in
+      let single : Fml = fsep (parts δ held) (fact (AreKeysApart held)) in
+      let all : Type 0 = Agree (counts xs) held × IsOfKind kind ys × AreKeysApart held in
       qed 𝓛 (‵ (kept (δ ∷ η ∷ kind) xs) ∷ ‵ (tokens_own δ η held log) ∷ []) ∵
       fsplit3 ! $ move ! (2 ∷ []) $ fpick ! (λ was. drop ! $ move ! (2 ∷ []) $ fsplit ! $
       -- parts, reached, halves, grown

@@ -20,9 +20,9 @@ abbrev pub ArePasses : ℕ → (ℕ → Actor) → List PassView → Type 0
 ArePasses count f ps = (length ps ≡ count) × ((i : ℕ) (d : PassView) → i < count → slice_index_or ps i d ≡ new_pass (f i))
 
 -- the pen may make the word with this key, which then holds 0
-abbrev pub IsFresh : Book → ℕ → Pen → Type 0
-IsFresh b k p = (p.book ≡ b) × (p.nib ≡ nib may_make_home k 0)
+abbrev pub IsPenFor : Book → ℕ → Pen → Type 0
+IsPenFor b k p = (p.book ≡ b) × (p.nib ≡ nib may_make_home k 0)
 
 -- each pen is that of its place in the list
 abbrev pub AreFresh : Book → List Pen → Type 0
-AreFresh b ps = (k : ℕ) (d : Pen) → k < length ps → IsFresh b k (slice_index_or ps k d)
+AreFresh b ps = (k : ℕ) (d : Pen) → k < length ps → IsPenFor b k (slice_index_or ps k d)

@@ -17,8 +17,8 @@ keys_in None = []
 keys_in (Some h) = keys h.held
 
 -- the tokens belong to the book with these names, and are up to date with the log
-pub record AreTokens (tallies copy : ℕ) (kind : List ℕ) (log : List Event) (h : Tokens) : Type 0 where
-  pub tallies_is : h.tallies ≡ tallies
+pub record AreTokens (counters copy : ℕ) (kind : List ℕ) (log : List Event) (h : Tokens) : Type 0 where
+  pub counters_is : h.counters ≡ counters
   pub copy_is : h.copy ≡ copy
   pub kind_is : h.kind ≡ kind
   pub log_is : h.log ≡ log
@@ -26,7 +26,7 @@ pub record AreTokens (tallies copy : ℕ) (kind : List ℕ) (log : List Event) (
   pub low : AllInRow h.held
 
 -- these are the tokens of the actor and of its own word
-pub record IsOwn (a : Actor) (held : List (ℕ × ℕ)) : Type 0 where
+pub record AreTokensOf (a : Actor) (held : List (ℕ × ℕ)) : Type 0 where
   pub own : IsHolding (word_key (Own a)) held
   pub by : IsHolding (actor_key a) held
 
@@ -42,11 +42,11 @@ pub record Commits (ks : List ℕ) (old : List Event) (x : Event) (new : List Ev
   pub last : new ≡ x ∷ before
 
 -- a later history, in which the events of the word of a token are those that it had when the token was given back
-abbrev pub IsSettled : WordTokenView → List Event → Type 0
-IsSettled p h = IsLater p.log h × Stays (word_key p.word ∷ []) p.log h
+abbrev pub IsWordSettled : WordTokenView → List Event → Type 0
+IsWordSettled p h = IsLater p.log h × Stays (word_key p.word ∷ []) p.log h
 
 -- the counts of the tokens are those of the log that it has, and their keys are in the row
-pub record IsRight (h : Tokens) : Type 0 where
+pub record AreTokensRight (h : Tokens) : Type 0 where
   pub right : h.held ≡ at (counts h.log) h.held
   pub low : AllInRow h.held
 
@@ -56,7 +56,7 @@ HasAllActors ks = (a : Actor) → IsMember a → IsOneOf (actor_key a) ks
 
 -- both hands belong to one book
 pub record AreOfOne (a b : Tokens) : Type 0 where
-  pub tallies : a.tallies ≡ b.tallies
+  pub counters : a.counters ≡ b.counters
   pub copy : a.copy ≡ b.copy
   pub kind : a.kind ≡ b.kind
 

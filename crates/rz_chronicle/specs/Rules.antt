@@ -9,7 +9,7 @@ use Rattle.rz_chronicle.specs.declared.told.Told.{Told}
 use Rattle.rz_chronicle.specs.Keys.{count_at, word_key, key_at, rows, IsInRow}
 
 -- each word is the number of its events
-pub record IsKept (cells : List Cell) (log : List Event) : Type 0 where
+pub record AreCounted (cells : List Cell) (log : List Event) : Type 0 where
   pub len : length cells ≡ rows
   pub each : (w : Word) → word_key w < rows → cell cells (word_key w) ≡ (count_at (word_key w) log, true)
 
@@ -33,8 +33,8 @@ abbrev pub named : Book → ℕ → Named
 named b k = record { tracked = true; key = k; book = b }
 
 -- the words of a book of these nodes, by their places
-abbrev pub AreWords : Book → List ℕ → List Named → Type 0
-AreWords b sids ws = (place : ℕ) (d : Named) → place < length ws → slice_index_or ws place d ≡ named b (key_at sids place)
+abbrev pub AreBookWords : Book → List ℕ → List Named → Type 0
+AreBookWords b sids ws = (place : ℕ) (d : Named) → place < length ws → slice_index_or ws place d ≡ named b (key_at sids place)
 
 -- what contracts see of a pass: whose it is, the log that it has seen with the newest event first, and the keys whose tokens it holds
 pub record PassView : Type 0 where

@@ -33,8 +33,8 @@ abbrev pub Agree : (ℕ → ℕ) → List (ℕ × ℕ) → Type 0
 Agree f held = AllByRecursion (λ x. f x.0 ≡ x.1) held
 
 -- no key is held twice
-abbrev pub AreApart : List (ℕ × ℕ) → Type 0
-AreApart held = IsDistinct nat_eq (map (λ x. x.0) held)
+abbrev pub AreKeysApart : List (ℕ × ℕ) → Type 0
+AreKeysApart held = IsDistinct nat_eq (map (λ x. x.0) held)
 
 abbrev pub counts : List Event → ℕ → ℕ
 counts log k = count_at k log
@@ -62,7 +62,7 @@ abbrev pub gained : List ℕ → List (ℕ × ℕ) → List Event → List Event
 gained [] held before log = ftrue
 gained (δ ∷ []) held before log = ftrue
 gained (δ ∷ η ∷ kind) held before log =
-    fsep (tokens_own δ η (at (counts log) held) log) (fact (Agree (counts before) held × IsOfKind kind log × AreApart held))
+    fsep (tokens_own δ η (at (counts log) held) log) (fact (Agree (counts before) held × IsOfKind kind log × AreKeysApart held))
 
 -- The data of an offer is a list of events, so that keys with counts are written as such.
 abbrev pub note : ℕ × ℕ → Event
@@ -95,8 +95,8 @@ abbrev pub Covers : List (ℕ × ℕ) → Event → Type 0
 Covers held x = IsHolding (word_key (word_of x)) held × IsHolding (actor_key (by_of x)) held
 
 -- the event keeps the kind of the book, whatever others have added
-abbrev pub MayFollow : List ℕ → List (ℕ × ℕ) → List Event → Event → Type 0
-MayFollow kind held log x = (xs : List Event) → IsPrefix log xs → Agree (counts xs) held → Fits kind (history xs) → Fits kind (history (xs ++ x ∷ []))
+abbrev pub KeepsBookKind : List ℕ → List (ℕ × ℕ) → List Event → Event → Type 0
+KeepsBookKind kind held log x = (xs : List Event) → IsPrefix log xs → Agree (counts xs) held → Fits kind (history xs) → Fits kind (history (xs ++ x ∷ []))
 
 -- the keys from k on, with no event each
 abbrev pub zeros : ℕ → ℕ → List (ℕ × ℕ)
@@ -119,5 +119,5 @@ HasCount [] k n = ⊥
 HasCount (x ∷ held) k n = (x ≡ (k, n)) ⊎ HasCount held k n
 
 -- The log goes on from the older one to one at which the held counts are still right, and then has this event.
-abbrev pub Ends : List (ℕ × ℕ) → List Event → Event → List Event → Type 0
-Ends held older x newer = (log : List Event) × IsPrefix older log × Agree (counts log) held × (newer ≡ log ++ x ∷ [])
+abbrev pub EndsOnEvent : List (ℕ × ℕ) → List Event → Event → List Event → Type 0
+EndsOnEvent held older x newer = (log : List Event) × IsPrefix older log × Agree (counts log) held × (newer ≡ log ++ x ∷ [])

@@ -6,8 +6,8 @@ ghost use Rattle.rz_events.specs.declared.events.Word.TheVariants as w;
 ghost use Rattle.rz_events.specs.Events.{word_of as word_at, by_of};
 ghost use Rattle.rz_chronicle.specs.Keys.{count_at, word_key, actor_key, rows, owner, key_at, moves_of, sids_of, IsLater, IsMember, IsOneOf, StandApart};
 ghost use Rattle.rz_chronicle.specs.Kinds.{IsFit, MayCome, MayComeAfter, history, volume_in};
-ghost use Rattle.rz_chronicle.specs.Rules.{named, AreWords};
-ghost use Rattle.rz_chronicle.specs.Holds.{Commits, Stays, AreTokens, IsSettled, keys};
+ghost use Rattle.rz_chronicle.specs.Rules.{named, AreBookWords};
+ghost use Rattle.rz_chronicle.specs.Holds.{Commits, Stays, AreTokens, IsWordSettled, keys};
 
 use crate::passes::{Desk, Naming, Pass, WordToken};
 use crate::places::{key_of, owner_at, place_of};
@@ -32,14 +32,14 @@ impl<J: Naming> Model for Book<J> {
     ghost use Rattle.rz_events.specs.Volume.{Volume};
     ghost use Rattle.rz_chronicle.specs.Keys.{sids_of};
     ghost use Rattle.rz_chronicle.specs.Kinds.{volume_in};
-    ghost use Rattle.rz_chronicle.specs.Rules.{AreWords};
+    ghost use Rattle.rz_chronicle.specs.Rules.{AreBookWords};
 
     ghost Value = { Volume };
 
     ghost view = { λ b. volume_in J.kind };
 
     ghost invariant = { λ b. (b.nodes.items ≡ sids_of (volume_in J.kind)) × (length b.words.items ≡ 338)
-        × AreWords J.book (sids_of (volume_in J.kind)) b.words.items
+        × AreBookWords J.book (sids_of (volume_in J.kind)) b.words.items
         × IsDistinct nat_eq b.nodes.items };
 }
 
@@ -48,7 +48,7 @@ impl<J: Naming> Book<J> {
     pub(crate) fn of_words(words: Vec<Word<Event, Told, Law>>, nodes: Vec<u16>) -> Book<J>
         requires nodes { nodes.items ≡ sids_of (volume_in J.kind) }
         requires distinct { IsDistinct nat_eq nodes.items }
-        requires words { (length words.items ≡ 338) × AreWords J.book nodes.items words.items }
+        requires words { (length words.items ≡ 338) × AreBookWords J.book nodes.items words.items }
         ensures { result ≡ volume_in J.kind }
     {
         Book {
@@ -168,7 +168,7 @@ impl<J: Naming> Book<J> {
     // Lets `front` see a log and gives it the tokens that were kept with it. No token was held by two.
     fn absorb(&self, front: &mut Pass<J>, theirs: Tokens, seen: &Seen<Event, Told, Law>)
         requires book { seen.now.book ≡ J.book }
-        requires theirs { AreTokens J.tallies J.copy J.kind seen.now.log theirs }
+        requires theirs { AreTokens J.counters J.copy J.kind seen.now.log theirs }
         ensures same { (front.new.actor ≡ front.old.actor) × (front.new.keys ≡ front.old.keys ++ keys theirs.held) }
         ensures later { IsLater front.old.log front.new.log × IsLater (history seen.now.log) front.new.log }
         ensures stays { Stays front.old.keys front.old.log front.new.log }
@@ -210,7 +210,7 @@ impl<J: Naming> Book<J> {
         ensures same { (front.new.actor ≡ front.old.actor) × (front.new.keys ≡ front.old.keys ++ word_key word_token.word ∷ []) }
         ensures later { IsLater front.old.log front.new.log }
         ensures stays { Stays front.old.keys front.old.log front.new.log }
-        ensures settles { IsSettled word_token front.new.log }
+        ensures settles { IsWordSettled word_token front.new.log }
         ensures apart { IsDistinct nat_eq front.new.keys }
         ensures fit { IsFit J.kind front.new.log }
     {
@@ -232,7 +232,7 @@ impl<J: Naming> Book<J> {
         ensures same { (front.new.actor ≡ front.old.actor) × (front.new.keys ≡ front.old.keys ++ map (λ p. word_key p.word) (desk.export ∷ desk.nodes.items)) }
         ensures later { IsLater front.old.log front.new.log }
         ensures stays { Stays front.old.keys front.old.log front.new.log }
-        ensures settles { AllByRecursion (λ p. IsSettled p front.new.log) (desk.export ∷ desk.nodes.items) }
+        ensures settles { AllByRecursion (λ p. IsWordSettled p front.new.log) (desk.export ∷ desk.nodes.items) }
         ensures apart { IsDistinct nat_eq front.new.keys }
         ensures fit { IsFit J.kind front.new.log }
     {

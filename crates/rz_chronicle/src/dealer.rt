@@ -35,8 +35,8 @@ impl<J: Naming> Model for Dealer<J> {
 
     ghost view = { λ d. d.tokens.held };
 
-    ghost invariant = { λ d. (d.seen.book ≡ J.book) × (d.seen.names ≡ J.tallies ∷ J.copy ∷ J.kind) × (d.seen.log ≡ [])
-        × (d.tokens.tallies ≡ J.tallies) × (d.tokens.copy ≡ J.copy) × (d.tokens.kind ≡ J.kind) × (d.tokens.log ≡ [])
+    ghost invariant = { λ d. (d.seen.book ≡ J.book) × (d.seen.names ≡ J.counters ∷ J.copy ∷ J.kind) × (d.seen.log ≡ [])
+        × (d.tokens.counters ≡ J.counters) × (d.tokens.copy ≡ J.copy) × (d.tokens.kind ≡ J.kind) × (d.tokens.log ≡ [])
         × AllByRecursion (λ x. x.1 ≡ 0) d.tokens.held
         × HasEarlierLog J.kind J.earlier
         × Fits J.kind [] };
@@ -46,7 +46,7 @@ impl<J: Naming> Dealer<J> {
     // The token of a key, and the others.
     fn one(self, key: u64) -> (Tokens, Dealer<J>)
         requires { IsHolding key self }
-        ensures names { (result.0.tallies ≡ J.tallies) × (result.0.copy ≡ J.copy) × (result.0.kind ≡ J.kind) × (result.0.log ≡ []) }
+        ensures names { (result.0.counters ≡ J.counters) × (result.0.copy ≡ J.copy) × (result.0.kind ≡ J.kind) × (result.0.log ≡ []) }
         ensures held { result.0.held ≡ (key, 0) ∷ [] }
         ensures rest { result.1 ≡ without key self }
     {

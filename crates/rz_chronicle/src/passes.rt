@@ -20,7 +20,7 @@ pub trait Naming {
 
     ghost book: { Book };
 
-    ghost tallies: { ℕ };
+    ghost counters: { ℕ };
 
     ghost copy: { ℕ };
 
@@ -34,7 +34,7 @@ impl Naming for Brand {
 
     ghost book = { record { number = 0; log_name = 0; cells_name = 0 } };
 
-    ghost tallies = { 0 };
+    ghost counters = { 0 };
 
     ghost copy = { 0 };
 
@@ -58,15 +58,15 @@ impl<J: Naming> Model for Pass<J> {
     ghost use Rattle.rz_events.specs.declared.events.Word.TheVariants as w;
     ghost use Rattle.rz_chronicle.specs.Keys.{count_at, word_key, IsMember};
     ghost use Rattle.rz_chronicle.specs.Kinds.{history, HavePlaces, HasEarlierLog, Fits};
-    ghost use Rattle.rz_chronicle.specs.Holds.{keys_in, AreTokens, IsOwn};
+    ghost use Rattle.rz_chronicle.specs.Holds.{keys_in, AreTokens, AreTokensOf};
     ghost use Rattle.rz_chronicle.specs.Rules.{PassView};
 
     ghost Value = { PassView };
 
     ghost view = { λ p. record { actor = p.actor; log = history p.seen.log; keys = keys_in p.tokens } };
 
-    ghost invariant = { λ p. (p.seen.book ≡ J.book) × (p.seen.names ≡ J.tallies ∷ J.copy ∷ J.kind)
-        × IsSomeAnd p.tokens (λ h. AreTokens J.tallies J.copy J.kind p.seen.log h × IsOwn p.actor h.held)
+    ghost invariant = { λ p. (p.seen.book ≡ J.book) × (p.seen.names ≡ J.counters ∷ J.copy ∷ J.kind)
+        × IsSomeAnd p.tokens (λ h. AreTokens J.counters J.copy J.kind p.seen.log h × AreTokensOf p.actor h.held)
         × (p.moved ≡ count_at (word_key (w.Own p.actor)) p.seen.log)
         × IsMember p.actor
         × Fits J.kind (history p.seen.log)
@@ -77,8 +77,8 @@ impl<J: Naming> Model for Pass<J> {
 impl<J: Naming> Pass<J> {
     // The pass of an actor that has done nothing yet.
     pub(crate) fn of_tokens(actor: Actor, tokens: Tokens, seen: Seen<Event, Told, Law>) -> Pass<J>
-        requires seen { (seen.book ≡ J.book) × (seen.names ≡ J.tallies ∷ J.copy ∷ J.kind) × (seen.log ≡ []) }
-        requires names { (tokens.tallies ≡ J.tallies) × (tokens.copy ≡ J.copy) × (tokens.kind ≡ J.kind) × (tokens.log ≡ []) }
+        requires seen { (seen.book ≡ J.book) × (seen.names ≡ J.counters ∷ J.copy ∷ J.kind) × (seen.log ≡ []) }
+        requires names { (tokens.counters ≡ J.counters) × (tokens.copy ≡ J.copy) × (tokens.kind ≡ J.kind) × (tokens.log ≡ []) }
         requires held { tokens.held ≡ (word_key (w.Own actor), 0) ∷ (actor_key actor, 0) ∷ [] }
         requires member { IsMember actor }
         requires earlier { HasEarlierLog J.kind J.earlier }
@@ -146,8 +146,8 @@ impl<J: Naming> Model for WordToken<J> {
 
     ghost view = { λ p. record { word = p.word; log = history p.seen.log } };
 
-    ghost invariant = { λ p. (p.seen.book ≡ J.book) × (p.seen.names ≡ J.tallies ∷ J.copy ∷ J.kind)
-        × IsSomeAnd p.tokens (λ h. AreTokens J.tallies J.copy J.kind p.seen.log h × (h.held ≡ (word_key p.word, p.moved) ∷ []))
+    ghost invariant = { λ p. (p.seen.book ≡ J.book) × (p.seen.names ≡ J.counters ∷ J.copy ∷ J.kind)
+        × IsSomeAnd p.tokens (λ h. AreTokens J.counters J.copy J.kind p.seen.log h × (h.held ≡ (word_key p.word, p.moved) ∷ []))
         × (owner (sids_of (volume_in J.kind)) p.place ≡ Some p.word)
         × IsShared p.word
         × Fits J.kind (history p.seen.log)
@@ -164,8 +164,8 @@ impl<J: Naming> WordToken<J> {
         tokens: Tokens,
         seen: Seen<Event, Told, Law>,
     ) -> WordToken<J>
-        requires seen { (seen.book ≡ J.book) × (seen.names ≡ J.tallies ∷ J.copy ∷ J.kind) × (seen.log ≡ []) }
-        requires names { (tokens.tallies ≡ J.tallies) × (tokens.copy ≡ J.copy) × (tokens.kind ≡ J.kind) × (tokens.log ≡ []) }
+        requires seen { (seen.book ≡ J.book) × (seen.names ≡ J.counters ∷ J.copy ∷ J.kind) × (seen.log ≡ []) }
+        requires names { (tokens.counters ≡ J.counters) × (tokens.copy ≡ J.copy) × (tokens.kind ≡ J.kind) × (tokens.log ≡ []) }
         requires held { tokens.held ≡ (word_key word, 0) ∷ [] }
         requires place { (place < 338) × (owner (sids_of (volume_in J.kind)) place ≡ Some word) }
         requires word { IsShared word × (word_key word < rows) }

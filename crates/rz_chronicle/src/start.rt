@@ -11,7 +11,7 @@ ghost use Rattle.rz_chronicle.specs.Keys.{rows, sids_of};
 ghost use Rattle.rz_core.specs.Legal.{IsLegalInRuns};
 ghost use Rattle.rz_chronicle.specs.Kinds.{goes_on, kind_of, kind_after, volume_in, HasEarlierLog};
 ghost use Rattle.rz_chronicle.specs.Tokens.{zeros};
-ghost use Rattle.rz_chronicle.specs.Rules.{AreWords};
+ghost use Rattle.rz_chronicle.specs.Rules.{AreBookWords};
 ghost use Rattle.rz_chronicle.specs.Dealing.{new_pass, new_word_token, ArePasses, AreFresh};
 
 use crate::book::Book;
@@ -94,7 +94,7 @@ fn words(
 ) -> Result<Vec<Word<Event, Told, Law>>, AllocError>
     requires pens { (length pens.items ≡ rows) × ((b : ABook) × AreFresh b pens.items) }
     requires nodes { IsDistinct nat_eq nodes.now }
-    ensures { (b : ABook) → AreFresh b pens.items → IfOk result (λ ws. (length ws.items ≡ 338) × AreWords b nodes.now ws.items) }
+    ensures { (b : ABook) → AreFresh b pens.items → IfOk result (λ ws. (length ws.items ≡ 338) × AreBookWords b nodes.now ws.items) }
 {
     let mut pens = pens;
     let mut words = Vec::with_capacity(alloc, WORDS as usize)?;
@@ -113,11 +113,11 @@ pub struct NewBook {
     pub seen: Seen<Event, Told, Law>,
     pub tokens: Tokens,
     ghost long: { length words.items ≡ 338 },
-    ghost are: { AreWords seen.book nodes.items words.items },
+    ghost are: { AreBookWords seen.book nodes.items words.items },
     ghost few: { length nodes.items ≤ 256 },
     ghost distinct: { IsDistinct nat_eq nodes.items } by { IsDistinct-prop nat_eq nodes.items },
     ghost numbers: { nodes.items ≡ sids_of (volume_in tokens.kind) },
-    ghost names: { seen.names ≡ tokens.tallies ∷ tokens.copy ∷ tokens.kind },
+    ghost names: { seen.names ≡ tokens.counters ∷ tokens.copy ∷ tokens.kind },
     ghost empty: { seen.log ≡ [] },
     ghost all: { tokens.held ≡ zeros 0 rows },
     ghost none: { tokens.log ≡ [] },
@@ -172,7 +172,7 @@ impl NewBook {
 
     /// The book under a name, and its crew.
     pub fn named<J: Naming>(self, alloc: Global) -> Result<(Book<J>, Crew<J>), AllocError>
-        requires names { (self.seen.book ≡ J.book) × (self.tokens.tallies ≡ J.tallies) × (self.tokens.copy ≡ J.copy) × (self.tokens.kind ≡ J.kind) }
+        requires names { (self.seen.book ≡ J.book) × (self.tokens.counters ≡ J.counters) × (self.tokens.copy ≡ J.copy) × (self.tokens.kind ≡ J.kind) }
         requires earlier { HasEarlierLog J.kind J.earlier }
         requires legal { IsTrue (goes_on J.kind) → IsLegalInRuns (volume_in J.kind) J.earlier }
         ensures book { IfOk result (λ r. r.0 ≡ volume_in J.kind) }

@@ -5,8 +5,8 @@ ghost use mathlib.Core.List.{IsPrefix};
 ghost use Rattle.rz_events.specs.Events.{word_of as word_at, by_of};
 ghost use Rattle.rz_chronicle.specs.Keys.{count_at, word_key, actor_key, IsInRow, rows};
 ghost use Rattle.rz_chronicle.specs.Kinds.{HasPlace, HavePlaces, Fits, MayFit, history};
-ghost use Rattle.rz_chronicle.specs.Tokens.{AllInRow, AreApart, Covers, HasCount, IsHolding, Ends, Agree, at, counts};
-ghost use Rattle.rz_chronicle.specs.Holds.{AreOfOne, IsRight, Commits, keys};
+ghost use Rattle.rz_chronicle.specs.Tokens.{AllInRow, AreKeysApart, Covers, HasCount, IsHolding, EndsOnEvent, Agree, at, counts};
+ghost use Rattle.rz_chronicle.specs.Holds.{AreOfOne, AreTokensRight, Commits, keys};
 
 use crate::laws::local_after;
 use crate::tokens::{Asks, Law, Mine, Tokens};
@@ -43,16 +43,16 @@ pub fn append<X, N: Asks<X>>(
 ) -> Tokens
     requires word { (word.now.tracked ≡ true) × (word.now.key ≡ word_key (word_at (N.event about.now))) × IsInRow (N.event about.now) }
     requires book { seen.old.book ≡ word.now.book }
-    requires names { seen.old.names ≡ tokens.tallies ∷ tokens.copy ∷ tokens.kind }
-    requires held { IsRight tokens × Covers tokens.held (N.event about.now) }
+    requires names { seen.old.names ≡ tokens.counters ∷ tokens.copy ∷ tokens.kind }
+    requires held { AreTokensRight tokens × Covers tokens.held (N.event about.now) }
     requires legal { MayFit tokens.kind (history tokens.log) (N.event about.now) }
     requires place { HasPlace tokens.kind (N.event about.now) }
     requires count { HasCount tokens.held (word_key (word_at (N.event about.now))) moved }
     requires room { moved + 1 < 2 ^ 64 }
     ensures book { (seen.new.book ≡ seen.old.book) × (seen.new.names ≡ seen.old.names) }
-    ensures tokens { (result.tallies ≡ tokens.tallies) × (result.copy ≡ tokens.copy) × (result.kind ≡ tokens.kind) }
+    ensures tokens { (result.counters ≡ tokens.counters) × (result.copy ≡ tokens.copy) × (result.kind ≡ tokens.kind) }
     ensures held { (result.held ≡ at (counts seen.new.log) tokens.held) × (result.log ≡ seen.new.log) }
-    ensures ends { Ends tokens.held seen.old.log (N.event about.now) seen.new.log }
+    ensures ends { EndsOnEvent tokens.held seen.old.log (N.event about.now) seen.new.log }
     ensures fit { Fits tokens.kind (history seen.new.log) }
     ensures places { HavePlaces tokens.kind (history seen.new.log) }
 {
@@ -74,13 +74,13 @@ pub fn view(
     requires word { (word.now.tracked ≡ true) × (word.now.key < rows) }
     requires key { (w : AWord) × (word.now.key ≡ word_key w) }
     requires book { seen.old.book ≡ word.now.book }
-    requires names { seen.old.names ≡ tokens.tallies ∷ tokens.copy ∷ tokens.kind }
+    requires names { seen.old.names ≡ tokens.counters ∷ tokens.copy ∷ tokens.kind }
     requires held { AllInRow tokens.held }
     ensures book { (seen.new.book ≡ seen.old.book) × (seen.new.names ≡ seen.old.names) }
-    ensures tokens { (result.0.tallies ≡ tokens.tallies) × (result.0.copy ≡ tokens.copy) × (result.0.kind ≡ tokens.kind) }
+    ensures tokens { (result.0.counters ≡ tokens.counters) × (result.0.copy ≡ tokens.copy) × (result.0.kind ≡ tokens.kind) }
     ensures held { (result.0.held ≡ at (counts seen.new.log) tokens.held) × (result.0.log ≡ seen.new.log) }
     ensures agree { Agree (counts seen.new.log) tokens.held }
-    ensures apart { AreApart tokens.held }
+    ensures apart { AreKeysApart tokens.held }
     ensures seen { IsPrefix seen.old.log seen.new.log }
     ensures fit { Fits tokens.kind (history seen.new.log) }
     ensures places { HavePlaces tokens.kind (history seen.new.log) }
@@ -104,7 +104,7 @@ pub fn view_both(
     requires word { (word.now.tracked ≡ true) × (word.now.key < rows) }
     requires key { (w : AWord) × (word.now.key ≡ word_key w) }
     requires book { seen.old.book ≡ word.now.book }
-    requires names { seen.old.names ≡ mine.tallies ∷ mine.copy ∷ mine.kind }
+    requires names { seen.old.names ≡ mine.counters ∷ mine.copy ∷ mine.kind }
     requires one { AreOfOne its mine }
     requires held { AllInRow mine.held × AllInRow its.held }
     requires its { its.held ≡ (key, moved) ∷ [] }
@@ -134,9 +134,9 @@ pub fn append_both<X, N: Asks<X>>(
 ) -> (Tokens, Tokens)
     requires word { (word.now.tracked ≡ true) × (word.now.key ≡ key) × (word_key (word_at (N.event about.now)) ≡ key) × IsInRow (N.event about.now) }
     requires book { seen.old.book ≡ word.now.book }
-    requires names { seen.old.names ≡ mine.tallies ∷ mine.copy ∷ mine.kind }
+    requires names { seen.old.names ≡ mine.counters ∷ mine.copy ∷ mine.kind }
     requires one { AreOfOne its mine }
-    requires mine { IsRight mine × IsHolding (actor_key (by_of (N.event about.now))) mine.held × (mine.log ≡ seen.old.log) }
+    requires mine { AreTokensRight mine × IsHolding (actor_key (by_of (N.event about.now))) mine.held × (mine.log ≡ seen.old.log) }
     requires its { (its.held ≡ (key, moved) ∷ []) × (its.log ≡ mine.log) × (count_at key mine.log ≡ moved) }
     requires legal { MayFit mine.kind (history mine.log) (N.event about.now) }
     requires place { HasPlace mine.kind (N.event about.now) }

@@ -3,7 +3,7 @@ ghost use Rattle.std.specs.Prelude.{◌≡◌, ◌<◌, ℕ, [], ◌∷◌, ◌+
 ghost use Rattle.rz_events.specs.declared.events.Event.{Event as AnEvent};
 ghost use Rattle.rz_chronicle.specs.Keys.{rows};
 ghost use Rattle.rz_chronicle.specs.Kinds.{HasPlace, HavePlaces, Fits, history, with_earlier};
-ghost use Rattle.rz_chronicle.specs.Tokens.{AllInRow, AreApart, Covers, MayFollow, Agree, IsHolding, at, counts, notes, held_in, mark, zeros, without, count_in};
+ghost use Rattle.rz_chronicle.specs.Tokens.{AllInRow, AreKeysApart, Covers, KeepsBookKind, Agree, IsHolding, at, counts, notes, held_in, mark, zeros, without, count_in};
 
 use crate::kinds::{Beginning, BookKind};
 use crate::told::Told;
@@ -17,9 +17,9 @@ pub struct Law;
 impl Rule<Event, Told> for Law {
     ghost use Rattle.std.specs.Prelude.{[]};
     ghost use Rattle.rz_chronicle.specs.Tokens.{kept};
-    ghost use Rattle.rz_chronicle.specs.Rules.{IsKept, IsMove};
+    ghost use Rattle.rz_chronicle.specs.Rules.{AreCounted, IsMove};
 
-    ghost holds = { λ cells log. IsKept cells log };
+    ghost holds = { λ cells log. AreCounted cells log };
 
     ghost first = { [] };
 
@@ -57,7 +57,7 @@ impl Asks<Event> for Itself {
 #[derive(Drop)]
 pub struct Tokens {
     marker: PhantomData<()>,
-    pub ghost tallies: { ℕ },
+    pub ghost counters: { ℕ },
     pub ghost copy: { ℕ },
     pub ghost kind: { List ℕ },
     pub ghost held: { List (ℕ × ℕ) },
@@ -67,13 +67,13 @@ pub struct Tokens {
 impl Model for Tokens {
     ghost use Rattle.rz_chronicle.specs.Tokens.{tokens_own};
 
-    ghost also_owns = { λ h. tokens_own h.tallies h.copy h.held h.log };
+    ghost also_owns = { λ h. tokens_own h.counters h.copy h.held h.log };
 }
 
 /// What callers keep at the start, and the tallies of all words and actors.
 pub fn begin<B: Beginning>(kind: &BookKind) -> (Start<Event, Told, Law>, Tokens)
     requires { Fits (with_earlier kind.now B.earlier) [] }
-    ensures { (result.0.names ≡ result.1.tallies ∷ result.1.copy ∷ result.1.kind) × (result.0.shown ≡ []) × (result.1.kind ≡ with_earlier kind.now B.earlier) × (result.1.held ≡ zeros 0 rows) × (result.1.log ≡ []) }
+    ensures { (result.0.names ≡ result.1.counters ∷ result.1.copy ∷ result.1.kind) × (result.0.shown ≡ []) × (result.1.kind ≡ with_earlier kind.now B.earlier) × (result.1.held ≡ zeros 0 rows) × (result.1.log ≡ []) }
 {
     let _ = kind;
     (
@@ -89,8 +89,8 @@ pub fn begin<B: Beginning>(kind: &BookKind) -> (Start<Event, Told, Law>, Tokens)
 impl Tokens {
     /// An update that adds the event of a value.
     pub fn offer<X, N: Asks<X>>(self, about: &X) -> Offer<Event, Told, Law, Mine>
-        requires { AllInRow self.held × Covers self.held (N.event about.now) × MayFollow self.kind self.held self.log (N.event about.now) × HasPlace self.kind (N.event about.now) }
-        ensures { (result.names ≡ self.tallies ∷ self.copy ∷ self.kind) × (result.ask ≡ N.event about.now) × (result.about ≡ notes self.held) × (result.state ≡ None) }
+        requires { AllInRow self.held × Covers self.held (N.event about.now) × KeepsBookKind self.kind self.held self.log (N.event about.now) × HasPlace self.kind (N.event about.now) }
+        ensures { (result.names ≡ self.counters ∷ self.copy ∷ self.kind) × (result.ask ≡ N.event about.now) × (result.about ≡ notes self.held) × (result.state ≡ None) }
     {
         let Self { marker: _ } = self;
         Offer {
@@ -101,7 +101,7 @@ impl Tokens {
     /// An update that adds nothing.
     pub fn look(self) -> Offer<Event, Told, Law, Mine>
         requires { AllInRow self.held }
-        ensures { (result.names ≡ self.tallies ∷ self.copy ∷ self.kind) × (result.ask ≡ mark) × (result.about ≡ notes self.held) × (result.state ≡ None) }
+        ensures { (result.names ≡ self.counters ∷ self.copy ∷ self.kind) × (result.ask ≡ mark) × (result.about ≡ notes self.held) × (result.state ≡ None) }
     {
         let Self { marker: _ } = self;
         Offer {
@@ -112,7 +112,7 @@ impl Tokens {
     /// The tokens after the step.
     pub fn back(gained: Gained<Event, Told, Mine>) -> Tokens
         requires { (n : ℕ × (ℕ × List ℕ)) × (gained.names ≡ n.0 ∷ n.1.0 ∷ n.1.1) }
-        ensures { (result.tallies ∷ result.copy ∷ result.kind ≡ gained.names) × (result.held ≡ at (counts gained.answer.log) (held_in gained.about)) × (result.log ≡ gained.answer.log) × Agree (counts gained.answer.before) (held_in gained.about) × Fits result.kind (history gained.answer.log) × AreApart (held_in gained.about) × HavePlaces result.kind (history gained.answer.log) }
+        ensures { (result.counters ∷ result.copy ∷ result.kind ≡ gained.names) × (result.held ≡ at (counts gained.answer.log) (held_in gained.about)) × (result.log ≡ gained.answer.log) × Agree (counts gained.answer.before) (held_in gained.about) × Fits result.kind (history gained.answer.log) × AreKeysApart (held_in gained.about) × HavePlaces result.kind (history gained.answer.log) }
     {
         let Gained { marker: _ } = gained;
         Tokens {
@@ -122,8 +122,8 @@ impl Tokens {
 
     /// The tokens of both, with the log of the first.
     pub fn join(self, other: Tokens) -> Tokens
-        requires { (other.tallies ≡ self.tallies) × (other.copy ≡ self.copy) }
-        ensures { (result.tallies ≡ self.tallies) × (result.copy ≡ self.copy) × (result.kind ≡ self.kind) × (result.held ≡ self.held ++ other.held) × (result.log ≡ self.log) }
+        requires { (other.counters ≡ self.counters) × (other.copy ≡ self.copy) }
+        ensures { (result.counters ≡ self.counters) × (result.copy ≡ self.copy) × (result.kind ≡ self.kind) × (result.held ≡ self.held ++ other.held) × (result.log ≡ self.log) }
     {
         let Self { marker: _ } = self;
         let Self { marker: _ } = other;
@@ -135,7 +135,7 @@ impl Tokens {
     /// The token of a key, and the others.
     pub fn parted(self, key: u64) -> (Tokens, Tokens)
         requires { IsHolding key self.held }
-        ensures { (result.0.tallies ≡ self.tallies) × (result.0.copy ≡ self.copy) × (result.0.kind ≡ self.kind) × (result.0.log ≡ self.log) × (result.1.tallies ≡ self.tallies) × (result.1.copy ≡ self.copy) × (result.1.kind ≡ self.kind) × (result.1.log ≡ self.log) × (result.0.held ≡ (key, count_in key self.held) ∷ []) × (result.1.held ≡ without key self.held) }
+        ensures { (result.0.counters ≡ self.counters) × (result.0.copy ≡ self.copy) × (result.0.kind ≡ self.kind) × (result.0.log ≡ self.log) × (result.1.counters ≡ self.counters) × (result.1.copy ≡ self.copy) × (result.1.kind ≡ self.kind) × (result.1.log ≡ self.log) × (result.0.held ≡ (key, count_in key self.held) ∷ []) × (result.1.held ≡ without key self.held) }
     {
         let Self { marker: _ } = self;
         let _ = key;

@@ -31,7 +31,7 @@ use Rattle.rz_core.specs.History.{Facts, facts, of_word}
 use Rattle.rz_core.specs.NodeRows.{cells_of, IsNodeOf}
 use Rattle.rz_export_model.specs.Export.{Export, new_export}
 use Rattle.rz_journal.specs.JournalText.{after_all}
-use Rattle.rz_journal.specs.Opening.{IsRefused}
+use Rattle.rz_journal.specs.Opening.{IsJournalRefused}
 use Rattle.rz_journal.specs.declared.rebuilding.JournalFault.{JournalFault}
 use Rattle.rz_journal.specs.declared.rebuilding.JournalFault.TheVariants as fault
 use Rattle.rz_metadata.specs.declared.metadata.Metadata.{Metadata}
@@ -45,11 +45,11 @@ use Rattle.rz_nodes.specs.Formatted.{geometry_of}
 use Rattle.rz_nodes.proofs.Rowwise.{get-behind}
 use Rattle.rz_nodes.specs.declared.refusal.OpenRefusal.{OpenRefusal}
 use Rattle.rz_nodes.specs.declared.refusal.OpenRefusal.TheVariants as refusal
-use Rattle.rz_nodes.specs.Opened.{IsOpened, IsKept, AreKept, AreOpened, IsCause}
+use Rattle.rz_nodes.specs.Opened.{IsNodeOpened, IsDiskBack, AreDisksBack, AreOpened, IsCause}
 use Rattle.rz_restart_laws.specs.Earlier.{IsEarlier, IsRestarted}
 use Rattle.rz_restart_laws.specs.Calls.{calls_told, changing_calls}
-use Rattle.rz_restart_laws.specs.Found.{IsFound, AreFound, StandsByLog}
-use Rattle.rz_restart_laws.specs.Laws.{IsFoundLaw, MayGoOn, GoesOn}
+use Rattle.rz_restart_laws.specs.Found.{IsNodeFound, IsStoreFound, StandsByLog}
+use Rattle.rz_restart_laws.specs.Laws.{IsFoundLaw, MayGoOn, CanGoOn}
 use Rattle.rz_locks.specs.Held.{Held}
 use Rattle.rz_play.specs.World.{World, Agenda as APlayer, empty_agenda, world_after}
 use Rattle.rz_play_laws.specs.Fine.{IsFine}
@@ -58,22 +58,22 @@ use Rattle.rz_driver_nodes.specs.Images.{AreDisksImaged, AreImaged, HasImages, f
 use Rattle.rz_driver_nodes.specs.Meters.{AreMetered, GoesWith, OfEach, faults_at, faults_in}
 use Rattle.rz_driver_nodes.specs.Servers.{state_in, numbers_of, IsServer}
 use Rattle.rz_driver.specs.declared.driver.Driver.{Driver}
-use Rattle.rz_driver_actors.specs.declared.agenda.Agenda.{Agenda}
+use Rattle.rz_driver_actors.specs.declared.actor_agenda.Agenda.{Agenda}
 use Rattle.rz_driver.specs.Continued.{journal_refusal, losses_of, AreLeft, IsCauseAgain, IsJournalCause, IsNodeCause, IsOpenedAgain, IsOpenedOver, IsRefusedOver, IsUnopened}
 use Rattle.rz_driver.specs.Endings.{StandsForLog}
-use Rattle.rz_driver.specs.Journals.{KeepsLog, journal_place, HasJournal}
-use Rattle.rz_driver.specs.Pictures.{AreBytes, IsPicture, KnowsLengths}
+use Rattle.rz_driver.specs.Journals.{KeepsLog, journal_place, StandsForJournal}
+use Rattle.rz_driver.specs.Coherence.{AreBytes, IsCoherent, KnowsLengths}
 use Rattle.rz_driver_actors.specs.Agendas.{IsEmptyAgenda}
-use Rattle.rz_driver.specs.Worlds.{is_known, left_behind, agenda_in, world_of, numbers_in, IsDriver, GoesAfter, Holds}
+use Rattle.rz_driver.specs.Worlds.{is_known, left_behind, agenda_in, world_of, numbers_in, IsDriver, GoesAfter, HoldsBetweenTurns}
 use Rattle.rz_driver.proofs.KeptCalls.{told-calls}
 use Rattle.rz_driver.proofs.MadeLemmas.{own-cells, empty-in, empty-agendas}
-use Rattle.rz_driver.proofs.NewPictures.{no-hands}
+use Rattle.rz_driver.proofs.NewCoherence.{no-hands}
 
 -- ---- nodes that were opened, each as one with the loss that `f` gives it
 
 module _ {D : Type 0} (tells : Bool) (meter : D → Meter) (text : D → List ℕ) (image : D → List ℕ → Type 0) (v : Volume) (f : NodeSpec → ℕ) where
   abbrev Opened : List NodeSpec → List D → List (Server (UnderFuse D)) → Type 0
-  Opened nodes disks row = AllZip (IsOpened tells meter text image v.layout) (zip (zip nodes (map f nodes)) disks) row
+  Opened nodes disks row = AllZip (IsNodeOpened tells meter text image v.layout) (zip (zip nodes (map f nodes)) disks) row
 
   pub opened-numbers : (nodes : List NodeSpec) (disks : List D) (row : List (Server (UnderFuse D))) → length disks ≡ length nodes → Opened nodes disks row → numbers_of row ≡ map (λ (n : NodeSpec). n.sid) nodes
   opened-numbers [] [] [] count all = refl
@@ -144,9 +144,9 @@ module _ {D : Type 0} (tells : Bool) (meter : D → Meter) (text : D → List �
 
   module _ (told : IsTrue tells) (imaged : (d : D) → IsTrue tells → image d (text d)) (h : List Event) (earlier : IsEarlier v h) where
     abbrev Found : Server (UnderFuse D) → Type 0
-    Found s = IsFound v h s.sid (text s.node.disk.disk) s.node.state
+    Found s = IsNodeFound v h s.sid (text s.node.disk.disk) s.node.state
 
-    found-one : (n : NodeSpec) (d : D) (s : Server (UnderFuse D)) → IsNodeOf v n.sid → cells_of v n.sid ≡ n.cells → IsOpened tells meter text image v.layout ((n, f n), d) s
+    found-one : (n : NodeSpec) (d : D) (s : Server (UnderFuse D)) → IsNodeOf v n.sid → cells_of v n.sid ≡ n.cells → IsNodeOpened tells meter text image v.layout ((n, f n), d) s
         → AreImages v (facts h) (of_word (Node n.sid) h) n.sid (geometry_in v n.sid) (image d) → Found s
     found-one n d s is cells o images =
         let as_in : geometry_of v.layout n ≡ geometry_in v n.sid = λ i. record { layout = v.layout; bsize = bsize_of v.layout; node = n.sid; cells = sym cells i } in
@@ -154,13 +154,13 @@ module _ {D : Type 0} (tells : Bool) (meter : D → Meter) (text : D → List �
         let fence = s.node.state.fence in
         let logged : StandsByLog v h n.sid (text d) = images (earlier.there n.sid is) (text d) (imaged d told) in
         let losses : s.node.state.losses ≡ f n = ap (λ (t : NodeState). t.losses) o.state in
-        let one : IsFound v h n.sid here s.node.state = record {
+        let one : IsNodeFound v h n.sid here s.node.state = record {
           logged = subst (λ (t : List ℕ). StandsByLog v h n.sid t) (sym o.same) logged;
           state = subst (λ (l : ℕ). s.node.state ≡ opened l fence s.node.state.held) (sym losses) o.state;
           stands = subst (λ (g : Geometry). (records : Records) × StandsFor g fence here records) as_in (o.stands told);
           shows = subst (λ (g : Geometry). (records : Records) → StandsFor g fence here records → IsHeldOnDisk s.node.state.held records) as_in (o.shows told);
         } in
-        subst (λ (m : ℕ). IsFound v h m here s.node.state) (sym o.number) one
+        subst (λ (m : ℕ). IsNodeFound v h m here s.node.state) (sym o.number) one
 
     pub found-all : (nodes : List NodeSpec) (disks : List D) (row : List (Server (UnderFuse D))) → length disks ≡ length nodes → Opened nodes disks row → AllByRecursion (λ n. IsNodeOf v n.sid) nodes → AllByRecursion (λ n. cells_of v n.sid ≡ n.cells) nodes
         → AreDisksImaged image v (map (λ (n : NodeSpec). n.sid) nodes) disks h → AllByRecursion Found row
@@ -300,7 +300,7 @@ module _ {D : Type 0} {G : Ghosts D} (v : Volume) (rules : IsVolume v) (export :
     after-it old short = record { short = short }
 
     -- over disks that do not tell
-    pub over-untold : G.tells ≡ false → (old : List Event) → length old < 2 ^ 63 + 512 → Holds d (left_behind counts old)
+    pub over-untold : G.tells ≡ false → (old : List Event) → length old < 2 ^ 63 + 512 → HoldsBetweenTurns d (left_behind counts old)
     over-untold untold old short = (
       metered,
       λ told few. absurd (cc),
@@ -315,26 +315,26 @@ module _ {D : Type 0} {G : Ghosts D} (v : Volume) (rules : IsVolume v) (export :
       kept : Stands G.tells G.meter G.image (faults (G.meter journal)) export (changing_calls h)
       kept = stands (changing_calls h) last
 
-      found : AllByRecursion (λ (s : Server (UnderFuse D)). IsFound v h s.sid (G.text s.node.disk.disk) s.node.state) row
+      found : AllByRecursion (λ (s : Server (UnderFuse D)). IsNodeFound v h s.sid (G.text s.node.disk.disk) s.node.state) row
       found = found-all G.tells G.meter G.text G.image v f told imaged h earlier specs nodes row count over.made (numbers-among specs specs (λ n is. is)) cells each
 
       among : (n : ℕ) → IsNodeOf v n → IsAmong n (numbers_of row)
       among n is = subst (IsAmong n) (sym numbers) is
 
-      are-found : AreFound v h (export_in export) (state_in row)
+      are-found : IsStoreFound v h (export_in export) (state_in row)
       are-found = record {
         export_is = answered-all G.tells G.meter G.image (faults (G.meter journal)) export v (changing_calls h) journaled volume kept;
-        found = λ n is. state-so (λ m s. (text : List ℕ) × IsFound v h m text s) row (with-text row found) n (among n is);
+        found = λ n is. state-so (λ m s. (text : List ℕ) × IsNodeFound v h m text s) row (with-text row found) n (among n is);
         losses = λ n is. state-so (λ m s. s.losses ≡ loss_of (export_in export) m) row (opened-losses G.tells G.meter G.text G.image v f (export_in export) (λ x. refl) specs nodes row count over.made) n (among n is);
         others = λ n no. state-none row n (λ is. no (subst (IsAmong n) numbers is));
       }
         where
-          with-text : (xs : List (Server (UnderFuse D))) → AllByRecursion (λ (s : Server (UnderFuse D)). IsFound v h s.sid (G.text s.node.disk.disk) s.node.state) xs
-              → AllByRecursion (λ (s : Server (UnderFuse D)). (text : List ℕ) × IsFound v h s.sid text s.node.state) xs
+          with-text : (xs : List (Server (UnderFuse D))) → AllByRecursion (λ (s : Server (UnderFuse D)). IsNodeFound v h s.sid (G.text s.node.disk.disk) s.node.state) xs
+              → AllByRecursion (λ (s : Server (UnderFuse D)). (text : List ℕ) × IsNodeFound v h s.sid text s.node.state) xs
           with-text [] all = tt
           with-text (s ∷ xs) all = ((G.text s.node.disk.disk, all.0), with-text xs all.1)
 
-      module _ (images : IsFoundLaw G.image) (old : List Event) (on : GoesOn v h (export_in export) (state_in row) old) where
+      module _ (images : IsFoundLaw G.image) (old : List Event) (on : CanGoOn v h (export_in export) (state_in row) old) where
         short : length old < 2 ^ 63 + 512
         short = let few = earlier.few in let more = on.restart.few in omega (arith, few, more)
 
@@ -344,8 +344,8 @@ module _ {D : Type 0} {G : Ghosts D} (v : Volume) (rules : IsVolume v) (export :
         there : behind old (world_of d) ≡ world_after (state_in row) (export_in export) old
         there = ap (behind old) over-world ∙ ap (λ (m : Metadata D). world_after (state_in row) (export_in m) old) over.export_is
 
-        picture : IsPicture (fused_image G.image) d.volume old (world_of d) d.agendas.items row
-        picture = subst (λ (u : Volume). IsPicture (fused_image G.image) u old (world_of d) d.agendas.items row) (sym over.volume) (record {
+        coherence : IsCoherent (fused_image G.image) d.volume old (world_of d) d.agendas.items row
+        coherence = subst (λ (u : Volume). IsCoherent (fused_image G.image) u old (world_of d) d.agendas.items row) (sym over.volume) (record {
           rules = rules;
           bytes = subst AreBytes (sym on.restart.facts_are) bytes;
           fine = subst (IsFine v old) (sym there) on.fine;
@@ -355,7 +355,7 @@ module _ {D : Type 0} {G : Ghosts D} (v : Volume) (rules : IsVolume v) (export :
               (images-all G.tells G.meter G.text G.image v f told imaged h earlier images specs nodes row count over.made servers found);
         })
 
-        has-journal : HasJournal d (left_behind counts old)
+        has-journal : StandsForJournal d (left_behind counts old)
         has-journal =
             let place : journal_place d ≡ length nodes = ap (λ (u : Volume). length (nodes_of u.clusters)) over.volume ∙ sym count in
             let counted : faults (G.meter journal) ≡ counts (journal_place d) =
@@ -369,10 +369,10 @@ module _ {D : Type 0} {G : Ghosts D} (v : Volume) (rules : IsVolume v) (export :
                   (subst (λ (m : Metadata D). KeepsLog G.tells G.meter G.image (faults (G.meter journal)) m (d.shared.log.events ++ old)) (sym over.export_is) here);
             }
 
-        over-holds : Holds d (left_behind counts old)
-        over-holds = (metered, λ told few. picture, λ exact. has-journal, after-it old short)
+        over-holds : HoldsBetweenTurns d (left_behind counts old)
+        over-holds = (metered, λ told few. coherence, λ exact. has-journal, after-it old short)
 
-      pub over-held : IsFoundLaw G.image → MayGoOn v → (old : List Event) × IsRestarted v h old × Holds d (left_behind counts old)
+      pub over-held : IsFoundLaw G.image → MayGoOn v → (old : List Event) × IsRestarted v h old × HoldsBetweenTurns d (left_behind counts old)
       over-held images on =
           let next = on h (export_in export) (state_in row) earlier are-found in
           (next.0, next.1, over-holds images next.0 next.2)
@@ -380,7 +380,7 @@ module _ {D : Type 0} {G : Ghosts D} (v : Volume) (rules : IsVolume v) (export :
 -- ---- why the journal was not opened
 
 module _ {D : Type 0} (tells : Bool) (meter : D → Meter) (text : D → List ℕ) (v : Volume) (disk back : D) (index : ℕ) where
-  pub cause-of : (why : JournalFault) → IsRefused tells v (text disk) why → (why ≡ fault.DiskFault → Rises (faults (meter disk)) (faults (meter back))) → IsJournalCause tells meter text v index disk back (journal_refusal why index)
+  pub cause-of : (why : JournalFault) → IsJournalRefused tells v (text disk) why → (why ≡ fault.DiskFault → Rises (faults (meter disk)) (faults (meter back))) → IsJournalCause tells meter text v index disk back (journal_refusal why index)
   cause-of fault.NoMemory refused risen = tt
   cause-of (fault.WrongSize have need) refused risen = (refl, record { why = fault.WrongSize have need; not_memory = λ is. absurd (cc); cause_is = refl; refused = refused; risen = risen })
   cause-of fault.DiskFault refused risen = (refl, record { why = fault.DiskFault; not_memory = λ is. absurd (cc); cause_is = refl; refused = refused; risen = risen })
@@ -406,30 +406,30 @@ split-same (a ∷ xs) (b ∷ ys) x y same =
     let rest = split-same xs ys x y tail in
     ((λ i. head i ∷ rest.0 i), rest.1)
 
-pub kept-same : {D : Type 0} (meter : D → Meter) (text : D → List ℕ) (image : D → List ℕ → Type 0) (disks : List D) → AreKept meter text image disks disks
+pub kept-same : {D : Type 0} (meter : D → Meter) (text : D → List ℕ) (image : D → List ℕ → Type 0) (disks : List D) → AreDisksBack meter text image disks disks
 kept-same meter text image [] = tt
 kept-same meter text image (d ∷ disks) = (record { count = omega arith; same = refl; images = λ c is. is }, kept-same meter text image disks)
 
-pub kept-last : {D : Type 0} (meter : D → Meter) (text : D → List ℕ) (image : D → List ℕ → Type 0) (disks back : List D) (d e : D) → AreKept meter text image disks back → IsKept meter text image d e → AreKept meter text image (disks ++ d ∷ []) (back ++ e ∷ [])
+pub kept-last : {D : Type 0} (meter : D → Meter) (text : D → List ℕ) (image : D → List ℕ → Type 0) (disks back : List D) (d e : D) → AreDisksBack meter text image disks back → IsDiskBack meter text image d e → AreDisksBack meter text image (disks ++ d ∷ []) (back ++ e ∷ [])
 kept-last meter text image [] [] d e all one = (one, tt)
 kept-last meter text image [] (b ∷ back) d e all one = absurd all
 kept-last meter text image (x ∷ disks) [] d e all one = absurd all
 kept-last meter text image (x ∷ disks) (b ∷ back) d e all one = (all.0, kept-last meter text image disks back d e all.1 one)
 
-pub kept-many : {D : Type 0} (meter : D → Meter) (text : D → List ℕ) (image : D → List ℕ → Type 0) (disks back : List D) → AreKept meter text image disks back → length back ≡ length disks
+pub kept-many : {D : Type 0} (meter : D → Meter) (text : D → List ℕ) (image : D → List ℕ → Type 0) (disks back : List D) → AreDisksBack meter text image disks back → length back ≡ length disks
 kept-many meter text image [] [] all = refl
 kept-many meter text image [] (b ∷ back) all = absurd all
 kept-many meter text image (d ∷ disks) [] all = absurd all
 kept-many meter text image (d ∷ disks) (b ∷ back) all = ap suc (kept-many meter text image disks back all.1)
 
-as-kept : {D : Type 0} (meter : D → Meter) (text : D → List ℕ) (image : D → List ℕ → Type 0) (d e : D) → IsAsItCame meter text image d e → IsKept meter text image d e
+as-kept : {D : Type 0} (meter : D → Meter) (text : D → List ℕ) (image : D → List ℕ → Type 0) (d e : D) → IsAsItCame meter text image d e → IsDiskBack meter text image d e
 as-kept meter text image d e came = record { count = came.count; same = came.same; images = came.images }
 
 module _ {D : Type 0} (tells : Bool) (meter : D → Meter) (text : D → List ℕ) (image : D → List ℕ → Type 0) (v : Volume) (disks nodes : List D) (journal : D) (are : disks ≡ nodes ++ journal ∷ []) where
   -- the journal's disk was not opened
-  pub journal-back : (e : D) (back : List D) → back ≡ nodes ++ e ∷ [] → IsAsItCame meter text image journal e → AreKept meter text image disks back
+  pub journal-back : (e : D) (back : List D) → back ≡ nodes ++ e ∷ [] → IsAsItCame meter text image journal e → AreDisksBack meter text image disks back
   journal-back e back is came =
-      subst (λ (xs : List D). AreKept meter text image xs back) (sym are) (subst (AreKept meter text image (nodes ++ journal ∷ [])) (sym is) (kept-last meter text image nodes nodes journal e (kept-same meter text image nodes) (as-kept meter text image journal e came)))
+      subst (λ (xs : List D). AreDisksBack meter text image xs back) (sym are) (subst (AreDisksBack meter text image (nodes ++ journal ∷ [])) (sym is) (kept-last meter text image nodes nodes journal e (kept-same meter text image nodes) (as-kept meter text image journal e came)))
 
   pub journal-cause : (e : D) (back : List D) → back ≡ nodes ++ e ∷ [] → (place : ℕ) → place ≡ length nodes → (why : OpenRefusal) → IsJournalCause tells meter text v place journal e why → IsCauseAgain tells meter text image v disks back why
   journal-cause e back is place at refusal.NoMemory cause = tt
@@ -456,9 +456,9 @@ module _ {D : Type 0} (tells : Bool) (meter : D → Meter) (text : D → List �
     back-is : back ≡ refused.nodes_back ++ one.0 ∷ []
     back-is = refused.back_are ∙ ap (λ (xs : List D). refused.nodes_back ++ xs) one.1
 
-    pub over-back : AreKept meter text image disks back
+    pub over-back : AreDisksBack meter text image disks back
     over-back =
-        subst (λ (xs : List D). AreKept meter text image xs back) (sym are) (subst (AreKept meter text image (nodes ++ journal ∷ [])) (sym back-is) (kept-last meter text image nodes refused.nodes_back journal one.0 refused.kept (as-kept meter text image journal one.0 one.2)))
+        subst (λ (xs : List D). AreDisksBack meter text image xs back) (sym are) (subst (AreDisksBack meter text image (nodes ++ journal ∷ [])) (sym back-is) (kept-last meter text image nodes refused.nodes_back journal one.0 refused.kept (as-kept meter text image journal one.0 one.2)))
 
     pub over-cause : IsCauseAgain tells meter text image v disks back why
     over-cause = go why refused.cause

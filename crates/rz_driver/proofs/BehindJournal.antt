@@ -22,19 +22,19 @@ use Rattle.rz_nodes.specs.declared.fault.DriverFault.TheVariants as driver
 use Rattle.rz_nodes.specs.declared.formatting.Server.{Server}
 use Rattle.rz_cells_slots.specs.declared.formatting.FormatFault.{FormatFault}
 use Rattle.rz_cells_slots.specs.declared.formatting.FormatFault.TheVariants as format
-use Rattle.rz_nodes.specs.Formatted.{AreBack, AreFormatted, IsBack, IsCause, IsFormatted, disks_of, fault_at}
+use Rattle.rz_nodes.specs.Formatted.{AreBack, AreFormatted, IsBack, IsCause, IsNodeFormatted, disks_of, fault_at}
 use Rattle.rz_nodes.proofs.FormatLemmas.{new-back}
 use Rattle.rz_nodes.proofs.Rowwise.{get-behind, zip-length, zip-map}
 use Rattle.rz_driver_nodes.specs.Meters.{AreMetered, GoesWith, OfEach, faults_at, faults_in}
 use Rattle.rz_driver_nodes.specs.Images.{fused_image}
 use Rattle.rz_driver_nodes.specs.Servers.{numbers_of, IsServer}
 use Rattle.rz_driver.specs.declared.driver.Driver.{Driver}
-use Rattle.rz_driver_actors.specs.declared.agenda.Agenda.{Agenda}
+use Rattle.rz_driver_actors.specs.declared.actor_agenda.Agenda.{Agenda}
 use Rattle.rz_driver_actors.specs.declared.shared.Shared.{Shared}
 use Rattle.rz_driver.specs.Formatted.{IsBehindJournal, IsJournalBack, AreBackWithJournal, IsFault, IsJournalRefused}
-use Rattle.rz_driver.specs.Journals.{KeepsLog, journal_place, HasJournal}
-use Rattle.rz_driver.specs.Pictures.{AreBytes, IsPicture}
-use Rattle.rz_driver.specs.Worlds.{anew, world, world_of, numbers_in, IsDriver, HasPicture, Holds}
+use Rattle.rz_driver.specs.Journals.{KeepsLog, journal_place, StandsForJournal}
+use Rattle.rz_driver.specs.Coherence.{AreBytes, IsCoherent}
+use Rattle.rz_driver.specs.Worlds.{anew, world, world_of, numbers_in, IsDriver, IsCoherentAfter, HoldsBetweenTurns}
 use Rattle.rz_driver.proofs.ExportWords.{bytes-none}
 use Rattle.rz_driver.proofs.KeptCalls.{no-calls}
 use Rattle.rz_driver.proofs.NodeOrders.{ready-with}
@@ -116,7 +116,7 @@ module _ {D : Type 0} {G : Ghosts D} (journal : D) (d e : Driver D G) (behind : 
           → AreFormatted tells meter text image v.layout (nodes_of v.clusters) (nodes ++ journal ∷ []) e.shared.servers.items
       behind-made made =
           let more : AreFormatted tells meter text image v.layout (nodes_of v.clusters) (nodes ++ journal ∷ []) d.shared.servers.items =
-          subst (λ (ps : List (NodeSpec × D)). AllZip (IsFormatted tells meter text image v.layout) ps d.shared.servers.items) (sym (zip-front (nodes_of v.clusters) nodes (journal ∷ []) count)) made in
+          subst (λ (ps : List (NodeSpec × D)). AllZip (IsNodeFormatted tells meter text image v.layout) ps d.shared.servers.items) (sym (zip-front (nodes_of v.clusters) nodes (journal ∷ []) count)) made in
           subst (λ (p : Shared (UnderFuse D) D). AreFormatted tells meter text image v.layout (nodes_of v.clusters) (nodes ++ journal ∷ []) p.servers.items) (sym behind.shared) more
 
     module _ (nodes : List D) (count : length nodes ≡ length (nodes_of v.clusters)) where
@@ -137,16 +137,16 @@ module _ {D : Type 0} {G : Ghosts D} (journal : D) (d e : Driver D G) (behind : 
           let there = subst (λ (p : Shared (UnderFuse D) D). AreMetered (fused_meter G.meter) (numbers_in d) p.servers.items p.log.events now) (sym behind.shared) again in
           subst (λ (u : Volume). AreMetered (fused_meter G.meter) (map (λ (n : NodeSpec). n.sid) (nodes_of u.clusters)) e.shared.servers.items e.shared.log.events now) (sym behind.volume) there
 
-      picture : HasPicture d [] → HasPicture e []
-      picture has = λ told few.
+      coherence : IsCoherentAfter d [] → IsCoherentAfter e []
+      coherence has = λ told few.
           let was = has told (subst (λ (h : List Event). length (h ++ []) < 2 ^ 64 - 1) same-log few) in
           let worlds : world_of d ≡ world_of e = new ∙ sym behind-world in
-          let one = subst (λ (w : World). IsPicture (fused_image G.image) d.volume [] w d.agendas.items d.shared.servers.items) worlds was in
-          let two = subst (λ (s : Vec Agenda). IsPicture (fused_image G.image) d.volume [] (world_of e) s.items d.shared.servers.items) (sym behind.agendas) one in
-          let three = subst (λ (p : Shared (UnderFuse D) D). IsPicture (fused_image G.image) d.volume [] (world_of e) e.agendas.items p.servers.items) (sym behind.shared) two in
-          subst (λ (u : Volume). IsPicture (fused_image G.image) u [] (world_of e) e.agendas.items e.shared.servers.items) (sym behind.volume) three
+          let one = subst (λ (w : World). IsCoherent (fused_image G.image) d.volume [] w d.agendas.items d.shared.servers.items) worlds was in
+          let two = subst (λ (s : Vec Agenda). IsCoherent (fused_image G.image) d.volume [] (world_of e) s.items d.shared.servers.items) (sym behind.agendas) one in
+          let three = subst (λ (p : Shared (UnderFuse D) D). IsCoherent (fused_image G.image) d.volume [] (world_of e) e.agendas.items p.servers.items) (sym behind.shared) two in
+          subst (λ (u : Volume). IsCoherent (fused_image G.image) u [] (world_of e) e.agendas.items e.shared.servers.items) (sym behind.volume) three
 
-      has-journal : HasJournal e (anew now)
+      has-journal : StandsForJournal e (anew now)
       has-journal =
           let place : journal_place e ≡ length nodes = ap (λ (u : Volume). length (nodes_of u.clusters)) (behind.volume ∙ volume) ∙ sym count in
           let counted : faults (G.meter journal) ≡ now (journal_place e) =
@@ -159,8 +159,8 @@ module _ {D : Type 0} {G : Ghosts D} (journal : D) (d e : Driver D G) (behind : 
             keeps = λ few. subst (λ (h : List Event). KeepsLog G.tells G.meter G.image (now (journal_place e)) e.shared.export h) (sym none) ([], no-calls G.tells, first);
           }
 
-      pub behind-holds : Holds d (anew before) → Holds e (anew now)
-      behind-holds held = (metered held.0, picture held.1, λ exact. has-journal, record { short = held.3.short })
+      pub behind-holds : HoldsBetweenTurns d (anew before) → HoldsBetweenTurns e (anew now)
+      behind-holds held = (metered held.0, coherence held.1, λ exact. has-journal, record { short = held.3.short })
 
 -- ---- the disks that come back
 
@@ -205,7 +205,7 @@ module _ {D : Type 0} (tells : Bool) (meter : D → Meter) (text : D → List �
     nodes_back = disks_of row;
     journal_back = refused.last;
     back_are = refused.back_are;
-    each = zip-map (IsFormatted tells meter text image v.layout) (IsBack tells meter image v.layout) (λ (s : Server (UnderFuse D)). s.node.disk.disk) (zip (nodes_of v.clusters) nodes) row (new-back tells meter text image v.layout) made;
+    each = zip-map (IsNodeFormatted tells meter text image v.layout) (IsBack tells meter image v.layout) (λ (s : Server (UnderFuse D)). s.node.disk.disk) (zip (nodes_of v.clusters) nodes) row (new-back tells meter text image v.layout) made;
     last = refused.kept;
   }
 

@@ -10,26 +10,26 @@ use Rattle.rz_nodes.specs.Formatted.{disks_of}
 use Rattle.rz_metadata.specs.declared.journaled.JournalRefusal.{JournalRefusal}
 use Rattle.rz_metadata.specs.Stands.{disk_of, is_journaled, refusal_of}
 use Rattle.rz_driver_nodes.specs.Images.{AreDisksImaged}
-use Rattle.rz_driver_nodes.proofs.PictureLemmas.{disks-imaged}
+use Rattle.rz_driver_nodes.proofs.CoherenceLemmas.{disks-imaged}
 use Rattle.rz_player.specs.Behind.{Before}
 use Rattle.rz_driver.specs.declared.driver.Driver.{Driver}
 use Rattle.rz_driver.specs.Continued.{AreLeft, EndsWhole}
 use Rattle.rz_driver.specs.Endings.{EndsAsRefused, StandsForLog}
 use Rattle.rz_driver.specs.Journals.{journal_place}
-use Rattle.rz_driver.specs.Worlds.{numbers_in, is_known, tells-known, Holds, Leaves}
-use Rattle.rz_driver.proofs.DriverPictures.{leaves-named, leaves-right, leaves-short}
+use Rattle.rz_driver.specs.Worlds.{numbers_in, is_known, tells-known, HoldsBetweenTurns, LeavesAtEnd}
+use Rattle.rz_driver.proofs.DriverCoherence.{leaves-named, leaves-right, leaves-short}
 use Rattle.rz_driver.proofs.JournalEndings.{stands-closed, ends-closed, full-stands}
 use Rattle.rz_driver.proofs.JournalLemmas.{leaves-journal}
 
 -- a log that fits into memory has room for an event more, behind that of earlier runs too
-pub has-few : {D : Type 0} {G : Ghosts D} (d : Driver D G) (b : Before) → Leaves d b → length d.shared.log.events ≤ 2 ^ 62 + 2 → length (d.shared.log.events ++ b.log) < 2 ^ 64 - 1
+pub has-few : {D : Type 0} {G : Ghosts D} (d : Driver D G) (b : Before) → LeavesAtEnd d b → length d.shared.log.events ≤ 2 ^ 62 + 2 → length (d.shared.log.events ++ b.log) < 2 ^ 64 - 1
 has-few d b left few =
     let whole = length-append d.shared.log.events b.log in
     let short = leaves-short d b left in
     omega (arith, whole, short, few)
 
 -- the images of each disk of a node stand for its records, however a play ended
-pub left-imaged : {D : Type 0} {G : Ghosts D} (d : Driver D G) (b : Before) → IsLogLaw G.image → Leaves d b → IsTrue G.tells → length (d.shared.log.events ++ b.log) < 2 ^ 64 - 1
+pub left-imaged : {D : Type 0} {G : Ghosts D} (d : Driver D G) (b : Before) → IsLogLaw G.image → LeavesAtEnd d b → IsTrue G.tells → length (d.shared.log.events ++ b.log) < 2 ^ 64 - 1
     → AreDisksImaged G.image d.volume (numbers_in d) (disks_of d.shared.servers.items) (d.shared.log.events ++ b.log)
 left-imaged {G = G} d b law left told few =
     let row = d.shared.servers.items in
@@ -43,7 +43,7 @@ some-disk None is = absurd (cc)
 some-disk (Some disk) is = (disk, refl)
 
 -- however a play ended
-pub whole-left : {D : Type 0} {G : Ghosts D} (d : Driver D G) (b : Before) → EndsWhole d b → Leaves d b
+pub whole-left : {D : Type 0} {G : Ghosts D} (d : Driver D G) (b : Before) → EndsWhole d b → LeavesAtEnd d b
 whole-left d b (inl held) = inl held
 whole-left d b (inr (left, full)) = left
 
@@ -51,12 +51,12 @@ module _ {D : Type 0} {G : Ghosts D} (d : Driver D G) (b : Before) (short : leng
   abbrev h : List Event
   h = d.shared.log.events ++ b.log
 
-  pub held-journal : Holds d b → (disk : D) → disk_of d.shared.export ≡ Some disk → IsTrue G.tells → StandsForLog (G.image disk) d.volume h
+  pub held-journal : HoldsBetweenTurns d b → (disk : D) → disk_of d.shared.export ≡ Some disk → IsTrue G.tells → StandsForLog (G.image disk) d.volume h
   held-journal held disk is told =
       let journal = held.2 (tells-known G.tells b told) in
       stands-closed G.tells G.meter G.image (b.counts (journal_place d)) d.volume h d.shared.export disk journal.volume is (journal.keeps (has-few d b (inl held) short)) told
 
-  pub left-journal : Leaves d b → is_known G.tells b ≡ true → (disk : D) → disk_of d.shared.export ≡ Some disk
+  pub left-journal : LeavesAtEnd d b → is_known G.tells b ≡ true → (disk : D) → disk_of d.shared.export ≡ Some disk
       → EndsAsRefused (refusal_of d.shared.export) G.tells (G.image disk) (b.counts (journal_place d)) (faults (G.meter disk)) d.volume h
   left-journal left exact disk is =
       let journal = leaves-journal d b left exact in

@@ -15,8 +15,8 @@ use Rattle.rz_events.specs.Events.{word_of, same_word}
 use Rattle.rz_export_model.specs.ExportEvents.{export_event}
 use Rattle.rz_core.specs.History.{Begun, facts, wrote, begun_by, first_some, of_word}
 use Rattle.rz_core.proofs.NodeSteps.{the_some}
-use Rattle.rz_metadata.specs.Journals.{HasBytes}
-use Rattle.rz_driver.specs.Pictures.{AreBytes}
+use Rattle.rz_metadata.specs.Journals.{WritesBytes}
+use Rattle.rz_driver.specs.Coherence.{AreBytes}
 
 -- ---- behind an earlier log
 
@@ -63,7 +63,7 @@ by-stamp : (by : Actor) (key : Key) (stamp base : ℕ) (text : List ℕ) → All
 by-stamp by key stamp base text bytes s b true is = let it : record { by = by; key = key; base = base; text = text } ≡ b = cc in subst (λ (w : Begun). All (λ x. x < 256) w.text) it bytes
 by-stamp by key stamp base text bytes s b false is = none-begun b is
 
-pub event-bytes : (by : Actor) (c : Call) (r : Reply) (x : Event) → HasBytes c → export_event by c r ≡ Some x → BeginsBytes x
+pub event-bytes : (by : Actor) (c : Call) (r : Reply) (x : Event) → WritesBytes c → export_event by c r ≡ Some x → BeginsBytes x
 event-bytes by (call.Tree c) (reply.Tree r) x bytes is = subst BeginsBytes (the_some _ x is) (λ s b no. none-begun b no)
 event-bytes by (call.Tree c) (_) x bytes is = absurd cc
 event-bytes by (call.Begin key text) (reply.Begun stamp base) x bytes is = subst BeginsBytes (the_some _ x is) (λ s b begun. by-stamp by key stamp base text bytes s b (s == stamp) begun)

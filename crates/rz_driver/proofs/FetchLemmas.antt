@@ -9,9 +9,9 @@ use Rattle.rz_events.specs.declared.nodes.FetchAnswer.{FetchAnswer}
 use Rattle.rz_events.specs.declared.events.Event.{Event}
 use Rattle.rz_metadata.specs.Stands.{export_in}
 use Rattle.rz_node_model.specs.NodeEvents.{fetch_event}
-use Rattle.rz_scrub_report.specs.Stores.{GoesOn, IsFetched}
+use Rattle.rz_scrub_report.specs.Stores.{IsOnlyAsked, IsAnsweredFetch}
 use Rattle.rz_driver.specs.declared.driver.Driver.{Driver}
-use Rattle.rz_driver_actors.specs.declared.agenda.Agenda.{Agenda}
+use Rattle.rz_driver_actors.specs.declared.actor_agenda.Agenda.{Agenda}
 use Rattle.rz_driver_actors.specs.declared.shared.Shared.{Shared}
 use Rattle.rz_driver_nodes.specs.Fetches.{IsFetch}
 use Rattle.rz_driver.specs.Fetches.{GivesOf, Metered, state_of}
@@ -33,12 +33,12 @@ module _ {D : Type 0} {G : Ghosts D} (d e : Driver D G) (asked : WasOnlyAsked d 
   -- as one sees it who scrubs it
   module _ (key : Key) (stamp : ℕ) (given : FetchAnswer) (n : ℕ) where
     pub fetched-of : IsFetch key stamp given n d.shared.servers.items e.shared.servers.items → (position : ℕ) (h : List Event)
-        → IsFetched n key position stamp given (state_of d h) (state_of e (fetch_event Admin n key position stamp given ∷ h))
+        → IsAnsweredFetch n key position stamp given (state_of d h) (state_of e (fetch_event Admin n key position stamp given ∷ h))
     fetched-of o position h = record { given_is = o.given_is; export = ap (λ (s : Shared (UnderFuse D) D). export_in s.export) asked.shared; nodes = o.states; events = refl }
 
     pub goes-on : (position : ℕ) → IsDriver e
         → ((h : List Event) (first : ℕ → ℕ) → Metered d h first → Metered e (fetch_event Admin n key position stamp given ∷ h) first)
-        → GoesOn (λ (f : Driver D G). IsDriver f) (λ (f : Driver D G). f.volume) (λ (f : Driver D G). GivesOf f) (λ (f : Driver D G) h. state_of f h) (λ (f : Driver D G) h. Metered f h) (λ (f g : Driver D G). WasOnlyAsked f g) d e
+        → IsOnlyAsked (λ (f : Driver D G). IsDriver f) (λ (f : Driver D G). f.volume) (λ (f : Driver D G). GivesOf f) (λ (f : Driver D G) h. state_of f h) (λ (f : Driver D G) h. Metered f h) (λ (f g : Driver D G). WasOnlyAsked f g) d e
         (fetch_event Admin n key position stamp given ∷ [])
     goes-on position ready met = record {
       ready = ready;

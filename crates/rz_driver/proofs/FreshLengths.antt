@@ -26,7 +26,7 @@ use Rattle.rz_operation_model.specs.Rebuild.{Rebuild, RebuildState, Going}
 use Rattle.rz_operation_model.specs.Rebuild as rebuild
 use Rattle.rz_operation_model.specs.Steps.{Told, Replied, Locked, Answered, Missed, Noted, told, in_range, in_rebuild, planned, after_open, after_lock, after_call, drop_at, after_drop, after_got, after_gave, said_writing, rebuild_after}
 use Rattle.rz_core.specs.History.{Facts}
-use Rattle.rz_driver.specs.Pictures.{KnowsLengths}
+use Rattle.rz_driver.specs.Coherence.{KnowsLengths}
 
 module _ (f : Facts) where
   -- ---- ranges

@@ -13,7 +13,7 @@ use Rattle.rz_metadata.specs.declared.journaled.JournalRefusal.{JournalRefusal}
 use Rattle.rz_metadata.specs.declared.journaled.JournalRefusal.TheVariants.{Full, Failed}
 use Rattle.rz_metadata.specs.declared.metadata.Metadata.{Metadata}
 use Rattle.rz_metadata.specs.declared.metadata.Metadata.TheVariants.{InMemory, Journaled}
-use Rattle.rz_metadata.specs.Stands.{export_in, disk_of, refusal_of, IsKept, IsLeft, IsLeftBy, OverfillsHalf}
+use Rattle.rz_metadata.specs.Stands.{export_in, disk_of, refusal_of, IsJournalKept, IsCallLeft, IsLeftBy, OverfillsHalf}
 use Rattle.rz_metadata.specs.Journals.{EndsWith}
 use Rattle.rz_driver.specs.Endings.{AreCallsOf, StandFor, StandForEither, StandsForLog, EndsFor, EndsAsRefused}
 use Rattle.rz_driver.specs.Journals.{KeepsLog, EndsLog}
@@ -41,7 +41,7 @@ module _ (image : List ℕ → Type 0) (s : Export) (v : Volume) (volume : s.vol
 module _ {D : Type 0} (tells : Bool) (meter : D → Meter) (image : D → List ℕ → Type 0) (first : ℕ) (v : Volume) (h : List Event) where
   kept-so : (j : Behind D) → j.journal.export.volume ≡ v → KeepsLog tells meter image first (Journaled j) h → IsTrue tells → StandsForLog (image j.journal.disk) v h
   kept-so j volume keeps told =
-      let kept : IsKept tells meter image first j keeps.0 = keeps.2 in
+      let kept : IsJournalKept tells meter image first j keeps.0 = keeps.2 in
       subst (StandFor (image j.journal.disk) v) (exactly tells told h keeps.0 keeps.1) (for-volume (image j.journal.disk) j.journal.export v volume keeps.0 (kept.images told))
 
   -- between two turns
@@ -57,7 +57,7 @@ module _ {D : Type 0} (tells : Bool) (meter : D → Meter) (image : D → List �
     EndsBy o = EndsAsRefused o tells here first (faults (meter j.journal.disk)) v h
 
     -- any call will do where none was left
-    kept-ends : IsKept tells meter image first j calls → EndsBy j.refusal
+    kept-ends : IsJournalKept tells meter image first j calls → EndsBy j.refusal
     kept-ends kept = subst EndsBy (sym kept.unrefused) (record {
       calls = calls;
       calls_are = tell;
@@ -66,7 +66,7 @@ module _ {D : Type 0} (tells : Bool) (meter : D → Meter) (image : D → List �
     })
 
     -- a call was replied to and not noted
-    more-ends : (c : Call) → IsKept tells meter image first j (calls ++ c ∷ []) → EndsBy j.refusal
+    more-ends : (c : Call) → IsJournalKept tells meter image first j (calls ++ c ∷ []) → EndsBy j.refusal
     more-ends c kept = subst EndsBy (sym kept.unrefused) (record {
       calls = calls;
       calls_are = tell;
@@ -74,7 +74,7 @@ module _ {D : Type 0} (tells : Bool) (meter : D → Meter) (image : D → List �
       ends = λ told text is. inr (for-volume here j.journal.export v volume (calls ++ c ∷ []) (kept.images told) text is);
     })
 
-    left-ends : (c : Call) → IsLeft tells meter image first j calls c → EndsBy j.refusal
+    left-ends : (c : Call) → IsCallLeft tells meter image first j calls c → EndsBy j.refusal
     left-ends c left = record {
       calls = calls;
       calls_are = tell;

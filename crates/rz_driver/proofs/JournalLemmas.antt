@@ -33,13 +33,13 @@ use Rattle.rz_metadata.specs.Stands.{export_in, Stands}
 use Rattle.rz_nodes.specs.declared.formatting.Server.{Server}
 use Rattle.rz_driver_nodes.specs.Administration.{IsStarted}
 use Rattle.rz_driver_nodes.proofs.EventWords.{node-word}
-use Rattle.rz_driver_nodes.proofs.PictureLemmas.{GrowsBy, grows-behind, grown-short}
+use Rattle.rz_driver_nodes.proofs.CoherenceLemmas.{GrowsBy, grows-behind, grown-short}
 use Rattle.rz_driver.specs.declared.driver.Driver.{Driver}
 use Rattle.rz_driver.specs.Endings.{AreCallsOf}
-use Rattle.rz_driver_actors.specs.Stores.{IsSameStore, IsExportTurn, Asks, AsksNothing}
-use Rattle.rz_driver.specs.Journals.{KeepsLog, EndsLog, journal_place, HasJournal, LeavesJournal}
-use Rattle.rz_driver.specs.Pictures.{AreBytes}
-use Rattle.rz_driver.specs.Worlds.{is_known, world_of, HasPicture, Leaves}
+use Rattle.rz_driver_actors.specs.Stores.{IsSameStore, TurnsExport, Asks, AsksNothing}
+use Rattle.rz_driver.specs.Journals.{KeepsLog, EndsLog, journal_place, StandsForJournal, LeavesJournal}
+use Rattle.rz_driver.specs.Coherence.{AreBytes}
+use Rattle.rz_driver.specs.Worlds.{is_known, world_of, IsCoherentAfter, LeavesAtEnd}
 use Rattle.rz_driver_actors.proofs.ExportEvents.{node-stays, noted-stays}
 use Rattle.rz_driver_actors.proofs.StoreLemmas.{same-store, ends-with-it}
 use Rattle.rz_driver.proofs.ExportWords.{same-behind, bytes-same, bytes-more, event-bytes}
@@ -60,18 +60,18 @@ arming-stays n passes pick h h' log_is = ap (of_word Export) log_is ∙ node-sta
 -- ---- a driver
 
 -- its log is one of several runs
-picture-legal : {D : Type 0} {G : Ghosts D} (d : Driver D G) (old : List Event) → HasPicture d old → IsTrue G.tells → length (d.shared.log.events ++ old) < 2 ^ 64 - 1 → IsLegalInRuns d.volume (d.shared.log.events ++ old)
-picture-legal d old picture told few = in-runs d.volume old (behind old (world_of d)) (picture told few).fine
+coherence-legal : {D : Type 0} {G : Ghosts D} (d : Driver D G) (old : List Event) → IsCoherentAfter d old → IsTrue G.tells → length (d.shared.log.events ++ old) < 2 ^ 64 - 1 → IsLegalInRuns d.volume (d.shared.log.events ++ old)
+coherence-legal d old coherence told few = in-runs d.volume old (behind old (world_of d)) (coherence told few).fine
 
 module _ {D : Type 0} {G : Ghosts D} (d e : Driver D G) (volume : e.volume ≡ d.volume) (store : IsSameStore d.shared.export e.shared.export) (b : Before) (h : List Event) (log : h ≡ d.shared.log.events)
-    (has : is_known G.tells b ≡ true → HasJournal d b) (known : is_known G.tells b ≡ true) where
+    (has : is_known G.tells b ≡ true → StandsForJournal d b) (known : is_known G.tells b ≡ true) where
   abbrev h' : List Event
   h' = e.shared.log.events
 
   abbrev Keeps : Metadata D → List Event → Type 0
   Keeps = KeepsLog G.tells G.meter G.image (b.counts (journal_place d))
 
-  had : HasJournal d b
+  had : StandsForJournal d b
   had = has known
 
   volume-there : (export_in e.shared.export).volume ≡ e.volume
@@ -86,22 +86,22 @@ module _ {D : Type 0} {G : Ghosts D} (d e : Driver D G) (volume : e.volume ≡ d
   had-bytes : IsTrue G.tells → AreBytes (facts (h ++ b.log))
   had-bytes = subst (λ (k : List Event). IsTrue G.tells → AreBytes (facts (k ++ b.log))) (sym log) had.bytes
 
-  journal-now : (IsTrue G.tells → AreBytes (facts (h' ++ b.log))) → (length (h' ++ b.log) < 2 ^ 64 - 1 → Keeps e.shared.export (h' ++ b.log)) → HasJournal e b
+  journal-now : (IsTrue G.tells → AreBytes (facts (h' ++ b.log))) → (length (h' ++ b.log) < 2 ^ 64 - 1 → Keeps e.shared.export (h' ++ b.log)) → StandsForJournal e b
   journal-now bytes keeps = record {
     volume = volume-there;
     bytes = bytes;
     keeps = λ few. subst (λ (n : ℕ). KeepsLog G.tells G.meter G.image n e.shared.export (h' ++ b.log)) place-there (keeps few);
   }
 
-  module _ (picture : HasPicture d b.log) (grown : GrowsBy h h') where
+  module _ (coherence : IsCoherentAfter d b.log) (grown : GrowsBy h h') where
     whole : GrowsBy (h ++ b.log) (h' ++ b.log)
     whole = grows-behind b.log h h' grown
 
     legal : IsTrue G.tells → length (h ++ b.log) < 2 ^ 64 - 1 → IsLegalInRuns d.volume (h ++ b.log)
-    legal told = subst (λ (k : List Event). length (k ++ b.log) < 2 ^ 64 - 1 → IsLegalInRuns d.volume (k ++ b.log)) (sym log) (picture-legal d b.log picture told)
+    legal told = subst (λ (k : List Event). length (k ++ b.log) < 2 ^ 64 - 1 → IsLegalInRuns d.volume (k ++ b.log)) (sym log) (coherence-legal d b.log coherence told)
 
     -- nothing was asked of the export
-    pub journal-no-more : IsNoCall d.volume → e.shared.export ≡ d.shared.export → of_word Export h' ≡ of_word Export h → HasJournal e b
+    pub journal-no-more : IsNoCall d.volume → e.shared.export ≡ d.shared.export → of_word Export h' ≡ of_word Export h → StandsForJournal e b
     journal-no-more untold same words = journal-now
         (λ told. bytes-same (h ++ b.log) (h' ++ b.log) (same-behind h h' b.log words) (had-bytes told))
         (λ few.
@@ -116,7 +116,7 @@ module _ {D : Type 0} {G : Ghosts D} (d e : Driver D G) (volume : e.volume ≡ d
 
     -- a call was replied to
     journal-one-more : IsCallTold d.volume → (by : Actor) (c : Call) → (IsTrue G.tells → length (h ++ b.log) < 2 ^ 64 - 1 → (g : Facts) → Extends (facts (h ++ b.log)) g → HasLength g c)
-        → KeepsCall G.tells G.meter G.image c d.shared.export e.shared.export → IsNoted (export_event by c (export_reply (export_in d.shared.export) c)) h h' → HasJournal e b
+        → KeepsCall G.tells G.meter G.image c d.shared.export e.shared.export → IsNoted (export_event by c (export_reply (export_in d.shared.export) c)) h h' → StandsForJournal e b
     journal-one-more told by c long keeps note =
         let x = note.0 in
         let r = export_reply (export_in d.shared.export) c in
@@ -133,7 +133,7 @@ module _ {D : Type 0} {G : Ghosts D} (d e : Driver D G) (volume : e.volume ≡ d
     -- after a turn
     pub journal-goes-on : IsCallTold d.volume → IsNoCall d.volume → (by : Actor) (machine : Option Machine)
         → (IsTrue G.tells → length (h ++ b.log) < 2 ^ 64 - 1 → (asker : Machine) (c : Call) → machine ≡ Some asker → call_asked (ask_of asker.layout asker.work) ≡ Some c → (g : Facts) → Extends (facts (h ++ b.log)) g → HasLength g c)
-        → IsExportTurn G.tells G.meter G.image by machine d.shared.export e.shared.export h h' → HasJournal e b
+        → TurnsExport G.tells G.meter G.image by machine d.shared.export e.shared.export h h' → StandsForJournal e b
     journal-goes-on told untold by machine long (Asks asker c is asks keeps note) = journal-one-more told by c (λ tells short. long tells short asker c is asks) keeps note
     journal-goes-on told untold by machine long (AsksNothing same words) = journal-no-more untold same words
 
@@ -149,33 +149,33 @@ module _ {D : Type 0} {G : Ghosts D} (d e : Driver D G) (volume : e.volume ≡ d
   }
 
   -- where nothing was noted
-  journal-as-it-was : h' ≡ h → e.shared.export ≡ d.shared.export → HasJournal e b
+  journal-as-it-was : h' ≡ h → e.shared.export ≡ d.shared.export → StandsForJournal e b
   journal-as-it-was same export = journal-now
       (subst (λ (k : List Event). IsTrue G.tells → AreBytes (facts (k ++ b.log))) (sym same) had-bytes)
       (subst (λ (k : List Event). length (k ++ b.log) < 2 ^ 64 - 1 → Keeps e.shared.export (k ++ b.log)) (sym same)
       (subst (λ (m : Metadata D). length (h ++ b.log) < 2 ^ 64 - 1 → Keeps m (h ++ b.log)) (sym export) had-calls))
 
 -- where nothing was asked of the export
-module _ {D : Type 0} {G : Ghosts D} (d e : Driver D G) (volume : e.volume ≡ d.volume) (export : e.shared.export ≡ d.shared.export) (b : Before) (has : is_known G.tells b ≡ true → HasJournal d b) where
+module _ {D : Type 0} {G : Ghosts D} (d e : Driver D G) (volume : e.volume ≡ d.volume) (export : e.shared.export ≡ d.shared.export) (b : Before) (has : is_known G.tells b ≡ true → StandsForJournal d b) where
   stored : IsSameStore d.shared.export e.shared.export
   stored = same-store d.shared.export e.shared.export export
 
   -- a node was ordered something
-  pub journal-ordered : IsNoCall d.volume → HasPicture d b.log → GrowsBy d.shared.log.events e.shared.log.events → of_word Export e.shared.log.events ≡ of_word Export d.shared.log.events → is_known G.tells b ≡ true → HasJournal e b
-  journal-ordered untold picture grown same known = journal-no-more d e volume stored b d.shared.log.events refl has known picture grown untold export same
+  pub journal-ordered : IsNoCall d.volume → IsCoherentAfter d b.log → GrowsBy d.shared.log.events e.shared.log.events → of_word Export e.shared.log.events ≡ of_word Export d.shared.log.events → is_known G.tells b ≡ true → StandsForJournal e b
+  journal-ordered untold coherence grown same known = journal-no-more d e volume stored b d.shared.log.events refl has known coherence grown untold export same
 
   -- an actor was
-  pub journal-stays : e.shared.log.events ≡ d.shared.log.events → is_known G.tells b ≡ true → HasJournal e b
+  pub journal-stays : e.shared.log.events ≡ d.shared.log.events → is_known G.tells b ≡ true → StandsForJournal e b
   journal-stays same known = journal-as-it-was d e volume stored b d.shared.log.events refl has known same export
 
   pub journal-still : e.shared.log.events ≡ d.shared.log.events → is_known G.tells b ≡ true → LeavesJournal e b
   journal-still same known = journal-ends d e volume stored b d.shared.log.events refl has known same
       (ends-with-it G.tells G.meter G.image d.shared.export e.shared.export export)
 
-pub journal-left : {D : Type 0} {G : Ghosts D} (d : Driver D G) (b : Before) → HasJournal d b → LeavesJournal d b
+pub journal-left : {D : Type 0} {G : Ghosts D} (d : Driver D G) (b : Before) → StandsForJournal d b → LeavesJournal d b
 journal-left d b had = record { volume = had.volume; bytes = had.bytes; ends = λ few. (let keeps = had.keeps few in (keeps.0, keeps.1, inl keeps.2)) }
 
 -- however a play ended
-pub leaves-journal : {D : Type 0} {G : Ghosts D} (d : Driver D G) (b : Before) → Leaves d b → is_known G.tells b ≡ true → LeavesJournal d b
+pub leaves-journal : {D : Type 0} {G : Ghosts D} (d : Driver D G) (b : Before) → LeavesAtEnd d b → is_known G.tells b ≡ true → LeavesJournal d b
 leaves-journal d b (inl held) known = journal-left d b (held.2 known)
 leaves-journal d b (inr left) known = left.2 known

@@ -17,8 +17,8 @@ use Rattle.rz_core.proofs.Extends.{Extends}
 use Rattle.rz_journal.specs.Seen.{calls_after}
 use Rattle.rz_operation_model.specs.Ask.{Ask, AskExport, AskNode, AskLock, Say, Rest, ask_of}
 use Rattle.rz_operation_model.specs.Work.{Work, Over}
-use Rattle.rz_play_laws.specs.Own.{IsOwn, IsUnderWay, IsProper, IsOwnProper}
-use Rattle.rz_restart_laws.specs.Calls.{changing_calls, AreTold, HasLength}
+use Rattle.rz_play_laws.specs.Own.{IsOwnOf, HasOwnEvents, IsProper, IsOwnProper}
+use Rattle.rz_restart_laws.specs.Calls.{changing_calls, AreCallsTold, HasLength}
 use Rattle.rz_restart_laws.specs.Laws.{IsCallTold, IsNoCall}
 use Rattle.rz_driver_asks.specs.Asked.{call_asked}
 use Rattle.rz_driver.specs.Endings.{AreCallsOf}
@@ -45,13 +45,13 @@ pub calls-more : (v : Volume) → IsCallTold v → (h : List Event) (x : Event) 
     → export_event by c r ≡ Some x → (calls : List Call) → AreCallsOf tells h calls → AreCallsOf tells (x ∷ h) (calls_after r c calls)
 calls-more v told h x by c r true legal long is calls are = ap (calls_after r c) are ∙ told h x by c r (legal refl) is (long refl)
 calls-more v told h x by c r false legal long is calls are =
-    subst (λ (w : List Event). AreTold w (calls_after r c calls)) (sym (word-grows by c r x h is)) (calls, are, record { by = by; call = c; reply = r; event_is = is; after_is = refl })
+    subst (λ (w : List Event). AreCallsTold w (calls_after r c calls)) (sym (word-grows by c r x h is)) (calls, are, record { by = by; call = c; reply = r; event_is = is; after_is = refl })
 
 -- none more
 pub calls-same : (v : Volume) → IsNoCall v → (h more : List Event) (tells : Bool) → (IsTrue tells → IsLegalInRuns v h) → of_word Export (more ++ h) ≡ of_word Export h
     → (calls : List Call) → AreCallsOf tells h calls → AreCallsOf tells (more ++ h) calls
 calls-same v untold h more true legal same calls are = are ∙ sym (untold h more (legal refl) same)
-calls-same v untold h more false legal same calls are = subst (λ (w : List Event). AreTold w calls) (sym same) are
+calls-same v untold h more false legal same calls are = subst (λ (w : List Event). AreCallsTold w calls) (sym same) are
 
 -- ---- the call that a machine asks for
 
@@ -78,7 +78,7 @@ module _ (v : Volume) (f g : Facts) (grows : Extends f g) (own run : List Event)
   of-ask (Say said) c p is = absurd (cc)
   of-ask Rest c p is = absurd (cc)
 
-  pub asked-length : IsOwnProper v → (y : Layout) (work : Work) → y ≡ v.layout → IsOwn v f own run by work → IsUnderWay v by number run work → (c : Call) → call_asked (ask_of y work) ≡ Some c → HasLength g c
+  pub asked-length : IsOwnProper v → (y : Layout) (work : Work) → y ≡ v.layout → IsOwnOf v f own run by work → HasOwnEvents v by number run work → (c : Call) → call_asked (ask_of y work) ≡ Some c → HasLength g c
   asked-length proper y work layout owns (inl over) c is =
       let never : call_asked (ask_of y Over) ≡ Some c = ap (λ (w : Work). call_asked (ask_of y w)) (sym over) ∙ is in absurd (cc)
   asked-length proper y work layout owns (inr course) c is =

@@ -42,14 +42,14 @@ use Rattle.rz_core.specs.History.{Facts, Begun, facts}
 use Rattle.rz_core.specs.Legal.{IsLegalInRuns}
 use Rattle.rz_core.specs.NodeRows.{IsRecord}
 use Rattle.rz_core.proofs.Extends.{Extends, extends-more}
-use Rattle.rz_play.specs.World.{World, Agenda as APlayer, at_work, take_up}
+use Rattle.rz_play.specs.World.{World, Agenda as APlayer, at_work, begin_next}
 use Rattle.rz_play.specs.Turns.{IsTurn, IsAskTurn, IsLost, counted, text_said}
 use Rattle.rz_play.specs.Turns as turns
 use Rattle.rz_play_laws.specs.Own.{IsToldBy}
 use Rattle.rz_play_laws.specs.Fine.{IsTelling, IsFine}
 use Rattle.rz_play_laws.proofs.Frames.{same_actor-true}
 use Rattle.rz_play_laws.proofs.Turning.{agenda-mine, agenda-other, in-runs}
-use Rattle.rz_driver.specs.Pictures.{KnowsLength, KnowsLengths}
+use Rattle.rz_driver.specs.Coherence.{KnowsLength, KnowsLengths}
 use Rattle.rz_driver.proofs.FreshLengths.{got, calling, dropping, opening, locking, writing, rebuilding, ending}
 
 -- ---- the facts grow
@@ -195,7 +195,7 @@ lengths-go v by number f g grows y Over u xs k step said = absurd step
 
 -- ---- a turn in the world of a play
 
-begun-knows : (f : Facts) (s : APlayer) (op : Operation) (ops : List Operation) → KnowsLengths f (take_up s Over (op ∷ ops)).work
+begun-knows : (f : Facts) (s : APlayer) (op : Operation) (ops : List Operation) → KnowsLengths f (begin_next s Over (op ∷ ops)).work
 begun-knows f s (operation.Tree c) ops = tt
 begun-knows f s (operation.Put path block datum) ops = tt
 begun-knows f s (operation.Get path block) ops = tt
@@ -206,7 +206,7 @@ begun-knows f s (operation.Update path offset datum) ops = tt
 begun-knows f s (operation.View path offset count) ops = tt
 
 -- an operation is taken up
-taken-knows : (f : Facts) (s : APlayer) (work : Work) (ops : List Operation) → KnowsLengths f s.work → KnowsLengths f (take_up s work ops).work
+taken-knows : (f : Facts) (s : APlayer) (work : Work) (ops : List Operation) → KnowsLengths f s.work → KnowsLengths f (begin_next s work ops).work
 taken-knows f s Over [] k = k
 taken-knows f s Over (op ∷ ops) k = begun-knows f s op ops
 taken-knows f s (Calling c) ops k = k

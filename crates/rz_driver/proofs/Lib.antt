@@ -10,8 +10,8 @@ mod ActorOrders
 mod MadeLemmas
 mod NodeOrders
 mod DriverMeters
-mod DriverPictures
-mod NewPictures
+mod DriverCoherence
+mod NewCoherence
 mod FetchLemmas
 mod ExportWords
 mod KeptCalls

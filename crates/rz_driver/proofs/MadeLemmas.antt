@@ -20,11 +20,11 @@ use Rattle.rz_metadata.specs.Stands.{export_in}
 use Rattle.rz_node_model.specs.States.{NodeState, fresh}
 use Rattle.rz_play.specs.World.{Agenda as APlayer, empty_agenda, new_world}
 use Rattle.rz_driver.specs.declared.driver.Driver.{Driver}
-use Rattle.rz_driver_actors.specs.declared.agenda.Agenda.{Agenda}
+use Rattle.rz_driver_actors.specs.declared.actor_agenda.Agenda.{Agenda}
 use Rattle.rz_driver_actors.specs.declared.shared.Shared.{Shared}
 use Rattle.rz_nodes.specs.declared.formatting.Server.{Server}
 use Rattle.rz_driver_asks.specs.Locking.{lock_of}
-use Rattle.rz_nodes.specs.Formatted.{IsFormatted, AreFormatted}
+use Rattle.rz_nodes.specs.Formatted.{IsNodeFormatted, AreFormatted}
 use Rattle.rz_driver_actors.specs.Agendas.{work_in, agenda_of, HasLayout, IsAgenda, IsEmptyAgenda}
 use Rattle.rz_driver_nodes.specs.Servers.{state_in, numbers_of, IsServer}
 use Rattle.rz_driver.specs.Worlds.{place_of, agenda_there, agenda_at, agenda_in, world, IsDriver}
@@ -46,7 +46,7 @@ module _ {D : Type 0} (tells : Bool) (meter : D → Meter) (text : D → List �
   as-many nodes disks servers count all =
       sym (length-map servers (λ (s : Server (UnderFuse D)). s.sid)) ∙ ap length (new-numbers nodes disks servers count all) ∙ length-map nodes (λ (n : NodeSpec). n.sid)
 
-  pub new-states : (handed : List (NodeSpec × D)) (servers : List (Server (UnderFuse D))) → AllZip (IsFormatted tells meter text image layout) handed servers → (n : ℕ) → state_in servers n ≡ fresh
+  pub new-states : (handed : List (NodeSpec × D)) (servers : List (Server (UnderFuse D))) → AllZip (IsNodeFormatted tells meter text image layout) handed servers → (n : ℕ) → state_in servers n ≡ fresh
   new-states [] [] all n = refl
   new-states [] (s ∷ servers) all n = absurd all
   new-states (h ∷ handed) [] all n = absurd all

@@ -31,7 +31,7 @@ use Rattle.rz_play.specs.Lines.{IsAdminCall, IsFreeStart, IsStartedAs, PlaysLine
 use Rattle.rz_driver.specs.declared.driver.Driver.{Driver}
 use Rattle.rz_driver_actors.specs.declared.shared.Shared.{Shared}
 use Rattle.rz_nodes.specs.declared.formatting.Server.{Server}
-use Rattle.rz_driver_nodes.specs.Administration.{IsOrdered, IsStarted, IsCalledAt, IsArming}
+use Rattle.rz_driver_nodes.specs.Administration.{IsOrderNoted, IsStarted, IsCalledAt, IsArming}
 use Rattle.rz_driver_actors.specs.Agendas.{IsAgenda}
 use Rattle.rz_driver_nodes.specs.Servers.{state_in, numbers_of, IsServer}
 use Rattle.rz_driver.specs.Worlds.{agenda_in, world, world_of, AreLocks, HaveNoLocks, IsDriver}
@@ -41,7 +41,7 @@ use Rattle.rz_driver.proofs.ReadyLemmas.{numbers-kept}
 -- ---- a row of nodes in which one was called
 
 module _ {D : Type 0} where
-  pub called-of : (question : NodeAsk) (n : ℕ) (old new : List (Server D)) (log log' : List Event) → IsOrdered question n old new log log' → IsCalledAt n old new
+  pub called-of : (question : NodeAsk) (n : ℕ) (old new : List (Server D)) (log log' : List Event) → IsOrderNoted question n old new log log' → IsCalledAt n old new
   called-of question n old new log log' o = record { place = o.place; server = o.server; after = o.after; at = o.at; is = o.is; servers = o.servers; called = o.order.called }
 
   call-keeps : (v : Volume) (s after : Server D) → after.sid ≡ s.sid → after.node.geometry ≡ s.node.geometry → IsServer v s → IsServer v after
@@ -67,10 +67,10 @@ module _ {X : Type 0} where
   pub in-vector : (v : Vec (Server X)) (xs ys : List (Server X)) (place : ℕ) (after : Server X) → xs ≡ v.items → ys ≡ set xs place after → (with_items v ys).items ≡ ys
   in-vector v xs ys place after same is = with_items_is v ys (ap length is ∙ length-set xs place after ∙ ap length same ∙ sym v.ok.0)
 
-  pub ordered-in : (question : NodeAsk) (n : ℕ) (v : Vec (Server X)) (xs ys : List (Server X)) (log log' : List Event) → xs ≡ v.items → IsOrdered question n xs ys log log' → IsOrdered question n v.items (with_items v ys).items log log'
+  pub ordered-in : (question : NodeAsk) (n : ℕ) (v : Vec (Server X)) (xs ys : List (Server X)) (log log' : List Event) → xs ≡ v.items → IsOrderNoted question n xs ys log log' → IsOrderNoted question n v.items (with_items v ys).items log log'
   ordered-in question n v xs ys log log' same o =
-      subst (λ (zs : List (Server X)). IsOrdered question n zs (with_items v ys).items log log') same
-      (subst (λ (zs : List (Server X)). IsOrdered question n xs zs log log') (sym (in-vector v xs ys o.place o.after same o.servers)) o)
+      subst (λ (zs : List (Server X)). IsOrderNoted question n zs (with_items v ys).items log log') same
+      (subst (λ (zs : List (Server X)). IsOrderNoted question n xs zs log log') (sym (in-vector v xs ys o.place o.after same o.servers)) o)
 
   pub started-in : (n : ℕ) (v : Vec (Server X)) (xs ys : List (Server X)) (log log' : List Event) → xs ≡ v.items → IsStarted n xs ys log log' → IsStarted n v.items (with_items v ys).items log log'
   started-in n v xs ys log log' same o =
@@ -118,7 +118,7 @@ module _ {D : Type 0} {G : Ghosts D} (d : Driver D G) (ready : IsDriver d) (q : 
   xs = d.shared.servers.items
 
   -- it is a call of the administrator in the world of the play
-  pub admin-call : (question : NodeAsk) (n : ℕ) → IsOrdered question n d.shared.servers.items q.servers.items d.shared.log.events q.log.events → IsAdminCall d.volume n question (world_of d) (world q d.agendas.items d.turns)
+  pub admin-call : (question : NodeAsk) (n : ℕ) → IsOrderNoted question n d.shared.servers.items q.servers.items d.shared.log.events q.log.events → IsAdminCall d.volume n question (world_of d) (world q d.agendas.items d.turns)
   admin-call question n o =
       let s = o.server in
       let here = state-at xs n o.place s o.at o.is in

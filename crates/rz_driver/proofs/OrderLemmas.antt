@@ -16,7 +16,7 @@ use Rattle.rz_events.specs.Events.{same_actor}
 use Rattle.rz_operation.specs.Answers.{IsOperation}
 use Rattle.rz_play.specs.World.{Agenda as APlayer, with_agenda}
 use Rattle.rz_driver.specs.declared.driver.Driver.{Driver}
-use Rattle.rz_driver_actors.specs.declared.agenda.Agenda.{Agenda}
+use Rattle.rz_driver_actors.specs.declared.actor_agenda.Agenda.{Agenda}
 use Rattle.rz_driver_actors.specs.declared.shared.Shared.{Shared}
 use Rattle.rz_driver_actors.specs.Agendas.{agenda_of, IsAgenda}
 use Rattle.rz_driver_nodes.specs.Servers.{numbers_of, IsServer}

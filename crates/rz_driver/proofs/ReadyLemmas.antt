@@ -17,10 +17,10 @@ use Rattle.rz_locks.specs.Held.{Held}
 use Rattle.rz_operation.specs.Machine.{Machine}
 use Rattle.rz_operation.specs.Answers.{IsOperation}
 use Rattle.rz_play.specs.World.{Agenda as APlayer}
-use Rattle.rz_driver_actors.specs.declared.agenda.Agenda.{Agenda}
+use Rattle.rz_driver_actors.specs.declared.actor_agenda.Agenda.{Agenda}
 use Rattle.rz_driver_actors.specs.declared.shared.Shared.{Shared}
 use Rattle.rz_nodes.specs.declared.formatting.Server.{Server}
-use Rattle.rz_driver_actors.specs.Acts.{IsAct, Rests, Exports, Opens, Sends, Says, IsSameActor, IsFate, Through, ReplyLost, RequestLost, IsReleased, locks_after}
+use Rattle.rz_driver_actors.specs.Acts.{IsAct, Rests, Exports, Opens, Sends, Says, IsSameActor, IsFate, Through, ReplyLost, RequestLost, IsLockReleased, locks_after}
 use Rattle.rz_driver_asks.specs.Locking.{lock_of, lock_if, Grants}
 use Rattle.rz_driver_actors.specs.Agendas.{agenda_of, HasLayout, IsAgenda}
 use Rattle.rz_driver_nodes.specs.Servers.{numbers_of, IsServer}
@@ -135,7 +135,7 @@ module _ (by : Actor) (ss : List Agenda) (place : ℕ) (at : place_of by ≡ Som
     no-lock true o none = refl
     no-lock false o none = none
 
-    released-locks : (done : Bool) → IsReleased done by a.lock b.lock locks locks' → holds
+    released-locks : (done : Bool) → IsLockReleased done by a.lock b.lock locks locks' → holds
     released-locks false r = stays (ap lock_of r.lock_is) r.locks_are
     released-locks true r = (by-kind by refl, λ n. none-left none (Rebuilder n) ∙ no-lock (same_actor (Rebuilder n) by) (agenda_in ss (Rebuilder n)).lock (free n))
       where

@@ -26,22 +26,22 @@ use Rattle.rz_locks.specs.declared.conflict.Range.{Range}
 use Rattle.rz_locks.specs.Conflicts.{Conflict}
 use Rattle.rz_locks.specs.Held.{Held, Blocks}
 use Rattle.rz_metadata.specs.Stands.{export_in}
-use Rattle.rz_operation.specs.Answers.{Goes}
+use Rattle.rz_operation.specs.Answers.{IsWorkAfter}
 use Rattle.rz_operation.specs.Machine.{Machine, text_of}
 use Rattle.rz_operation_model.specs.Ask.{Ask, AskExport, AskNode, AskLock, Say, Rest, Saying, SayGot, SayGave, SayLeft, SayDone, ask_of}
 use Rattle.rz_operation_model.specs.Work.{Work, Over, Calling, Dropping, Opening, Locking, Writing, Reading, Rebuilding, Ending}
 use Rattle.rz_operation_model.specs.Steps.{Told, Replied, Locked, Answered, Missed, Noted, told, begun}
-use Rattle.rz_play.specs.World.{World, Agenda as APlayer, at_work, take_up, Bars, IsFree}
+use Rattle.rz_play.specs.World.{World, Agenda as APlayer, at_work, begin_next, Bars, IsFree}
 use Rattle.rz_play.specs.Turns.{IsTurn, IsAskTurn, IsLost, lost_after, Through as ComesThrough, ReplyLost as LosesReply, RequestLost as LosesRequest, IsGranted, IsGiven, lock_after, lock_on, locked, advanced, answered, moved, no_miss, counted, text_said}
 use Rattle.rz_play.specs.Free.{IsFreeTurn, IsFreeAskTurn}
-use Rattle.rz_driver_actors.specs.declared.agenda.Agenda.{Agenda}
+use Rattle.rz_driver_actors.specs.declared.actor_agenda.Agenda.{Agenda}
 use Rattle.rz_driver_actors.specs.declared.shared.Shared.{Shared}
 use Rattle.rz_nodes.specs.declared.formatting.Server.{Server}
-use Rattle.rz_driver_actors.specs.Acts.{IsAct, Rests, Exports, Opens, Sends, Says, IsSameActor, IsMessage, IsFate, Through, ReplyLost, RequestLost, IsReleased, lock_left}
+use Rattle.rz_driver_actors.specs.Acts.{IsAct, Rests, Exports, Opens, Sends, Says, IsSameActor, IsActorMessage, IsFate, Through, ReplyLost, RequestLost, IsLockReleased, lock_left}
 use Rattle.rz_driver_asks.specs.Locking.{lock_of, lock_if, open_reply, Grants, IsOpenPart}
-use Rattle.rz_driver_nodes.specs.Nodes.{IsServed, IsAsked, IsThroughPart, IsReplyLostPart, IsRequestLostPart}
+use Rattle.rz_driver_nodes.specs.Nodes.{IsNodeServed, IsAsked, IsThroughPart, IsReplyLostPart, IsRequestLostPart}
 use Rattle.rz_operation_model.specs.Turns.{said_event}
-use Rattle.rz_driver_asks.specs.Parts.{IsTold, IsExportPart, IsSayPart, is_done}
+use Rattle.rz_driver_asks.specs.Parts.{IsMachineTold, IsExportPart, IsSayPart, is_done}
 use Rattle.rz_player.specs.Behind.{behind}
 use Rattle.rz_driver_actors.specs.Agendas.{work_in, agenda_of, HasLayout}
 use Rattle.rz_driver_nodes.specs.Servers.{state_in, IsServer}
@@ -64,7 +64,7 @@ begun-asks layout (operation.Update path offset datum) is = absurd (cc)
 begun-asks layout (operation.View path offset count) is = absurd (cc)
 
 -- an actor that asks for nothing took nothing up
-rest-same : (layout : Layout) (s : APlayer) (work : Work) (todo : List Operation) → ask_of layout (take_up s work todo).work ≡ Rest → take_up s work todo ≡ s
+rest-same : (layout : Layout) (s : APlayer) (work : Work) (todo : List Operation) → ask_of layout (begin_next s work todo).work ≡ Rest → begin_next s work todo ≡ s
 rest-same layout s Over [] is = refl
 rest-same layout s Over (op ∷ todo) is = begun-asks layout op is
 rest-same layout s (Calling c) todo is = refl
@@ -82,7 +82,7 @@ player-is s a b same is work work_is lock lock_is miss miss_is =
     (λ i. record { todo = same.todo i; number = same.number i; work = work_is i; lock = lock_is i; miss = miss_is i })
     ∙ ap (λ (x : APlayer). record x { work = work; lock = lock; miss = miss }) is
 
-told-of : (m new : Machine) (t : Told) → Goes m m.pairs t new → IsTold m new t
+told-of : (m new : Machine) (t : Told) → IsWorkAfter m m.pairs t new → IsMachineTold m new t
 told-of m new t goes = record { layout = goes.layout; work = goes.work }
 
 -- ---- what is said
@@ -135,7 +135,7 @@ module _ {D J : Type 0} (v : Volume) (by : Actor) (ss : List Agenda) (place turn
       let same : m.layout ≡ v.layout = subst (HasLayout v.layout) is layout in
       ap (λ (o : Option Machine). ask_of v.layout (work_in o)) is ∙ ap (λ (y : Layout). ask_of y m.work) (sym same) ∙ asks
 
-  told-is : (m new : Machine) (b : Agenda) (t : Told) → a.machine ≡ Some m → b.machine ≡ Some new → IsTold m new t → work_in b.machine ≡ told v.layout s.work t
+  told-is : (m new : Machine) (b : Agenda) (t : Told) → a.machine ≡ Some m → b.machine ≡ Some new → IsMachineTold m new t → work_in b.machine ≡ told v.layout s.work t
   told-is m new b t was is goes =
       let same : m.layout ≡ v.layout = subst (HasLayout v.layout) was layout in
       ap work_in is ∙ goes.work ∙ ap (λ (y : Layout). told y m.work t) same ∙ ap (λ (o : Option Machine). told v.layout (work_in o) t) (sym was)
@@ -159,7 +159,7 @@ module _ {D J : Type 0} (v : Volume) (by : Actor) (ss : List Agenda) (place turn
       stays = fun_ext (agenda-same ss by place a0 a at low here (taken ∙ unchanged))
 
   -- the actor went on so
-  goes-on : (m new : Machine) (b : Agenda) (t : Told) → a.machine ≡ Some m → b.machine ≡ Some new → IsSameActor a b → IsTold m new t → (lock : Option Lock) → lock_of b.lock ≡ lock → (miss : Option Bool) → b.miss ≡ miss
+  goes-on : (m new : Machine) (b : Agenda) (t : Told) → a.machine ≡ Some m → b.machine ≡ Some new → IsSameActor a b → IsMachineTold m new t → (lock : Option Lock) → lock_of b.lock ≡ lock → (miss : Option Bool) → b.miss ≡ miss
       → agenda_of b ≡ record s { work = told v.layout s.work t; lock = lock; miss = miss }
   goes-on m new b t was is same goes lock lock_is miss miss_is = player-is s a b same refl (told v.layout s.work t) (told-is m new b t was is goes) lock lock_is miss miss_is
 
@@ -261,7 +261,7 @@ module _ {D J : Type 0} (v : Volume) (by : Actor) (ss : List Agenda) (place turn
         the-one y st is = cc
     server-at (y ∷ ss') (suc i) st all is = server-at ss' i st all.1 is
 
-    module _ (n : ℕ) (question : NodeAsk) (old new : Machine) (b : Agenda) (m : IsMessage by n question old new a.miss b.miss p q) (was : a.machine ≡ Some old) (is : b.machine ≡ Some new) (same : IsSameActor a b) (lock : b.lock ≡ a.lock) (asks : IsAsked old n question) where
+    module _ (n : ℕ) (question : NodeAsk) (old new : Machine) (b : Agenda) (m : IsActorMessage by n question old new a.miss b.miss p q) (was : a.machine ≡ Some old) (is : b.machine ≡ Some new) (same : IsSameActor a b) (lock : b.lock ≡ a.lock) (asks : IsAsked old n question) where
       found : (m.server.sid ≡ n) × (state_in p.servers.items n ≡ m.server.node.state)
       found = state-at p.servers.items n m.place m.server m.at m.is
 
@@ -269,7 +269,7 @@ module _ {D J : Type 0} (v : Volume) (by : Actor) (ss : List Agenda) (place turn
       shape = server-at p.servers.items m.place m.server servers m.is
 
       -- the answer is that of the node in its state
-      given-is : (given : NodeAnswer) (x : Event) → IsServed m.server.node.geometry.cells question given m.server.node.state m.after.node.state → node_event by n question given ≡ Some x → IsGiven v w by n question given x
+      given-is : (given : NodeAnswer) (x : Event) → IsNodeServed m.server.node.geometry.cells question given m.server.node.state m.after.node.state → node_event by n question given ≡ Some x → IsGiven v w by n question given x
       given-is given x served event = record {
         given_is = subst (λ (st : NodeState). IsNodeAnswer (cells_of v n) st question given) (sym found.1)
             (subst (λ (k : ℕ). IsNodeAnswer k m.server.node.state question given) (shape.cells ∙ ap (cells_of v) found.0) served.given_is);
@@ -282,7 +282,7 @@ module _ {D J : Type 0} (v : Volume) (by : Actor) (ss : List Agenda) (place turn
           ∙ ap (λ (st : NodeState). cond (k == n) st (state_in p.servers.items k)) (after ∙ ap (after_answer question given) (sym found.1)))
 
       -- it came through, and the actor goes on as it was told
-      came : (fits : Bool) (part : IsThroughPart by n m.server.node.geometry.cells question m.server.node.state m.after.node.state old new p.log.events q.log.events) → IsTold old new (Answered fits part.given)
+      came : (fits : Bool) (part : IsThroughPart by n m.server.node.geometry.cells question m.server.node.state m.after.node.state old new p.log.events q.log.events) → IsMachineTold old new (Answered fits part.given)
           → b.miss ≡ a.miss → q.lost ≡ p.lost → next b ≡ moved (answered w n question part.given) by (advanced v s (Answered fits part.given)) (part.noted.0 ∷ [])
       came fits part goes miss lost =
           let nodes = states part.given part.served.after in
@@ -359,13 +359,13 @@ module _ {D J : Type 0} (v : Volume) (by : Actor) (ss : List Agenda) (place turn
   lock-said (SayLeft key why) done lock lock' done_is left = ap lock_of (left ∙ ap (λ (d : Bool). lock_left d lock) done_is)
 
   module _ (b : Agenda) (m new : Machine) (was : a.machine ≡ Some m) (is : b.machine ≡ Some new) (same : IsSameActor a b) (miss : b.miss ≡ a.miss) (done : Bool) (part : IsSayPart by a.number done m new p.log.events q.log.events)
-      (released : IsReleased done by a.lock b.lock p.locks q.locks) (servers : q.servers.items ≡ p.servers.items) (export : q.export ≡ p.export) (lost : q.lost ≡ p.lost) where
+      (released : IsLockReleased done by a.lock b.lock p.locks q.locks) (servers : q.servers.items ≡ p.servers.items) (export : q.export ≡ p.export) (lost : q.lost ≡ p.lost) where
     -- with this text
     said-so : (text : List ℕ) → text_of m ≡ text → next b ≡ moved w by (record (advanced v s (Noted text)) { lock = lock_after part.0 s.lock }) (said_event by a.number text part.0 ∷ [])
     said-so text named =
         let said = part.0 in
         let noted : q.log.events ≡ said_event by a.number text said ∷ p.log.events = part.2.noted ∙ ap (λ (t : List ℕ). said_event by a.number t said ∷ p.log.events) named in
-        let goes : Goes m m.pairs (Noted text) new = subst (λ (t : List ℕ). Goes m m.pairs (Noted t) new) named part.2.goes in
+        let goes : IsWorkAfter m m.pairs (Noted text) new = subst (λ (t : List ℕ). IsWorkAfter m m.pairs (Noted t) new) named part.2.goes in
         let agendas = agendas-are b (record (advanced v s (Noted text)) { lock = lock_after said s.lock })
         (goes-on m new b (Noted text) was is same (told-of m new (Noted text) goes) (lock_after said s.lock) (lock-said said done a.lock b.lock part.2.done_is released.lock_is) s.miss miss) in
         λ i. record {

@@ -8,7 +8,7 @@ use Rattle.rz_events.specs.declared.keys.Actor.{Actor}
 use Rattle.rz_events.specs.declared.keys.Actor.TheVariants.{Client, Rebuilder, Admin}
 use Rattle.rz_events.specs.Events.{same_actor}
 use Rattle.rz_play.specs.World.{actors}
-use Rattle.rz_driver_actors.specs.declared.agenda.Agenda.{Agenda}
+use Rattle.rz_driver_actors.specs.declared.actor_agenda.Agenda.{Agenda}
 use Rattle.rz_driver_actors.specs.Agendas.{agenda_of}
 use Rattle.rz_driver.specs.Worlds.{place_if, place_of, agenda_there, agenda_at, agenda_in}
 

@@ -10,26 +10,26 @@ use Rattle.rz_events.specs.declared.files.NodeSpec.{NodeSpec}
 use Rattle.rz_events.specs.declared.events.Event.{Event}
 use Rattle.rz_core.specs.History.{facts}
 use Rattle.rz_export_model.specs.Export.{Export}
-use Rattle.rz_journal.specs.Opening.{IsRefused}
+use Rattle.rz_journal.specs.Opening.{IsJournalRefused}
 use Rattle.rz_journal.specs.declared.rebuilding.JournalFault.{JournalFault}
 use Rattle.rz_journal.specs.declared.rebuilding.JournalFault.TheVariants as fault
 use Rattle.rz_metadata.specs.declared.metadata.Metadata.{Metadata}
 use Rattle.rz_metadata.specs.Enrolled.{loss_of}
-use Rattle.rz_metadata.specs.Reopened.{MakesExport, number_of}
+use Rattle.rz_metadata.specs.Reopened.{MakesExport, journal_fault_number}
 use Rattle.rz_metadata.specs.Stands.{disk_of, export_in, refusal_of}
 use Rattle.rz_metadata.specs.declared.journaled.JournalRefusal.TheVariants.{Full}
 use Rattle.rz_nodes.specs.declared.refusal.OpenRefusal.{OpenRefusal}
 use Rattle.rz_nodes.specs.declared.refusal.OpenRefusal.TheVariants as refusal
-use Rattle.rz_nodes.specs.Opened.{AreKept, AreOpened, IsCause}
+use Rattle.rz_nodes.specs.Opened.{AreDisksBack, AreOpened, IsCause}
 use Rattle.rz_player.specs.Behind.{Before}
 use Rattle.rz_play.specs.World.{world_after}
 use Rattle.rz_driver_nodes.specs.Images.{AreDisksImaged}
 use Rattle.rz_driver_nodes.specs.Servers.{state_in}
 use Rattle.rz_driver.specs.declared.driver.Driver.{Driver}
 use Rattle.rz_driver.specs.Endings.{StandsForLog}
-use Rattle.rz_driver.specs.Pictures.{AreBytes}
+use Rattle.rz_driver.specs.Coherence.{AreBytes}
 use Rattle.rz_driver_actors.specs.Agendas.{IsEmptyAgenda}
-use Rattle.rz_driver.specs.Worlds.{world_of, Holds, Leaves}
+use Rattle.rz_driver.specs.Worlds.{world_of, HoldsBetweenTurns, LeavesAtEnd}
 
 -- What earlier runs left, and what a run leaves for the next.
 
@@ -45,7 +45,7 @@ pub record AreLeft {D : Type 0} (image : D → List ℕ → Type 0) (v : Volume)
 
 -- A play ended so that its disks stand for its log: between two turns, or where the journal was full.
 abbrev pub EndsWhole : {D : Type 0} {G : Ghosts D} → Driver D G → Before → Type 0
-EndsWhole d b = Holds d b ⊎ (Leaves d b × (refusal_of d.shared.export ≡ Some Full))
+EndsWhole d b = HoldsBetweenTurns d b ⊎ (LeavesAtEnd d b × (refusal_of d.shared.export ≡ Some Full))
 
 -- What was opened.
 
@@ -83,8 +83,8 @@ pub record IsOpenedAgain {D : Type 0} {G : Ghosts D} (v : Volume) (disks : List 
 pub record IsJournalUnopened {D : Type 0} (tells : Bool) (meter : D → Meter) (text : D → List ℕ) (v : Volume) (disk back : D) (cause : ℕ) : Type 0 where
   pub why : JournalFault
   pub not_memory : why ≢ fault.NoMemory
-  pub cause_is : cause ≡ number_of why
-  pub refused : IsRefused tells v (text disk) why
+  pub cause_is : cause ≡ journal_fault_number why
+  pub refused : IsJournalRefused tells v (text disk) why
   pub risen : why ≡ fault.DiskFault → Rises (faults (meter disk)) (faults (meter back))
 
 -- what ended the opening of a journal whose disk has this index
@@ -104,7 +104,7 @@ journal_refusal (fault.Damaged entry) index = refusal.Open index 5
 pub record IsRefusedOver {D : Type 0} (tells : Bool) (meter : D → Meter) (text : D → List ℕ) (image : D → List ℕ → Type 0) (v : Volume) (export : Metadata D) (nodes back : List D) (why : OpenRefusal) : Type 0 where
   pub nodes_back : List D
   pub back_are : back ≡ nodes_back ++ option_to_list (disk_of export)
-  pub kept : AreKept meter text image nodes nodes_back
+  pub kept : AreDisksBack meter text image nodes nodes_back
   pub cause : IsCause tells meter text image v.layout (nodes_of v.clusters) (losses_of (export_in export) v) nodes nodes_back why
 
 -- a node's disk was not opened, the first that was not, after the journal was

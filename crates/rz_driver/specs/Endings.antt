@@ -13,7 +13,7 @@ use Rattle.rz_metadata.specs.declared.journaled.JournalRefusal.TheVariants.{Full
 use Rattle.rz_metadata.specs.Stands.{OverfillsHalf}
 use Rattle.rz_player.specs.declared.lines.PlayEnd.{PlayEnd}
 use Rattle.rz_player.specs.declared.lines.PlayEnd.TheVariants as end
-use Rattle.rz_restart_laws.specs.Calls.{changing_calls, AreTold}
+use Rattle.rz_restart_laws.specs.Calls.{changing_calls, AreCallsTold}
 
 -- how a play ends where a turn was not taken
 abbrev pub end_by : Option JournalRefusal → PlayEnd
@@ -33,7 +33,7 @@ StandForEither image v calls c = (text : List ℕ) → image text → IsTextOf v
 -- their texts the length of a publish is left open.
 abbrev pub AreCallsOf : Bool → List Event → List Call → Type 0
 AreCallsOf true h calls = calls ≡ changing_calls h
-AreCallsOf false h calls = AreTold (of_word Export h) calls
+AreCallsOf false h calls = AreCallsTold (of_word Export h) calls
 
 -- each image stands for the calls that changed the export of the log
 abbrev pub StandsForLog : (List ℕ → Type 0) → Volume → List Event → Type 0

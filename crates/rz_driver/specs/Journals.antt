@@ -12,7 +12,7 @@ use Rattle.rz_metadata.specs.Stands.{export_in, Stands}
 use Rattle.rz_metadata.specs.Journals.{EndsWith}
 use Rattle.rz_driver.specs.declared.driver.Driver.{Driver}
 use Rattle.rz_driver.specs.Endings.{AreCallsOf}
-use Rattle.rz_driver.specs.Pictures.{AreBytes}
+use Rattle.rz_driver.specs.Coherence.{AreBytes}
 
 -- the journal stands for the calls of this log
 abbrev pub KeepsLog : {D : Type 0} → Bool → (D → Meter) → (D → List ℕ → Type 0) → ℕ → Metadata D → List Event → Type 0
@@ -30,7 +30,7 @@ journal_place d = length (nodes_of d.volume.clusters)
 -- event more.
 
 -- between two turns a journal stands for the calls of the whole log, whose texts are of bytes
-pub record HasJournal {D : Type 0} {G : Ghosts D} (d : Driver D G) (b : Before) : Type 0 where
+pub record StandsForJournal {D : Type 0} {G : Ghosts D} (d : Driver D G) (b : Before) : Type 0 where
   pub volume : (export_in d.shared.export).volume ≡ d.volume
   pub bytes : IsTrue G.tells → AreBytes (facts (d.shared.log.events ++ b.log))
   pub keeps : length (d.shared.log.events ++ b.log) < 2 ^ 64 - 1 → KeepsLog G.tells G.meter G.image (b.counts (journal_place d)) d.shared.export (d.shared.log.events ++ b.log)

@@ -1,6 +1,6 @@
 pub mod Journals
 pub mod Worlds
-pub mod Pictures
+pub mod Coherence
 pub mod OnlyAsked
 pub mod AskedLaws
 pub mod Fetches

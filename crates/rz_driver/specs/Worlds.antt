@@ -14,15 +14,15 @@ use Rattle.rz_locks.specs.Held.{Held}
 use Rattle.rz_player.specs.Behind.{Before}
 use Rattle.rz_metadata.specs.Stands.{export_in}
 use Rattle.rz_play.specs.World.{World, Agenda as APlayer, empty_agenda}
-use Rattle.rz_driver_actors.specs.declared.agenda.Agenda.{Agenda}
+use Rattle.rz_driver_actors.specs.declared.actor_agenda.Agenda.{Agenda}
 use Rattle.rz_driver_actors.specs.declared.shared.Shared.{Shared}
 use Rattle.rz_driver.specs.declared.driver.Driver.{Driver}
 use Rattle.rz_driver_actors.specs.Agendas.{agenda_of, IsAgenda}
 use Rattle.rz_disk.specs.UnderFuse.{fused_meter}
 use Rattle.rz_driver_nodes.specs.Meters.{AreMetered, AreCounted}
-use Rattle.rz_driver_nodes.specs.Images.{IsRight, fused_image}
-use Rattle.rz_driver.specs.Journals.{HasJournal, LeavesJournal}
-use Rattle.rz_driver.specs.Pictures.{IsPicture}
+use Rattle.rz_driver_nodes.specs.Images.{IsServerRight, fused_image}
+use Rattle.rz_driver.specs.Journals.{StandsForJournal, LeavesJournal}
+use Rattle.rz_driver.specs.Coherence.{IsCoherent}
 use Rattle.rz_driver_nodes.specs.Servers.{state_in, numbers_of, IsServer}
 
 -- Actors stand in a row, the clients 1 to 64 and then the rebuilders 1 to 16.
@@ -105,22 +105,22 @@ pub record GoesAfter (b : Before) : Type 0 where
   pub short : length b.log < 2 ^ 63 + 512
 
 -- where disks tell their texts, and the whole log has room for an event more, actors and disks are right beside it
-abbrev pub HasPicture : {D : Type 0} {G : Ghosts D} → Driver D G → List Event → Type 0
-HasPicture {G = G} d old =
-    IsTrue G.tells → length (d.shared.log.events ++ old) < 2 ^ 64 - 1 → IsPicture (fused_image G.image) d.volume old (world_of d) d.agendas.items d.shared.servers.items
+abbrev pub IsCoherentAfter : {D : Type 0} {G : Ghosts D} → Driver D G → List Event → Type 0
+IsCoherentAfter {G = G} d old =
+    IsTrue G.tells → length (d.shared.log.events ++ old) < 2 ^ 64 - 1 → IsCoherent (fused_image G.image) d.volume old (world_of d) d.agendas.items d.shared.servers.items
 
 -- then each disk is right by the whole log
 abbrev pub HasRightDisks : {D : Type 0} {G : Ghosts D} → Driver D G → List Event → Type 0
 HasRightDisks {G = G} d old =
-    IsTrue G.tells → length (d.shared.log.events ++ old) < 2 ^ 64 - 1 → AllByRecursion (IsRight (fused_image G.image) d.volume (d.shared.log.events ++ old)) d.shared.servers.items
+    IsTrue G.tells → length (d.shared.log.events ++ old) < 2 ^ 64 - 1 → AllByRecursion (IsServerRight (fused_image G.image) d.volume (d.shared.log.events ++ old)) d.shared.servers.items
 
 -- between two turns each word of the log goes with its disk's meter, and a journal stands for the calls that the whole log tells
-abbrev pub Holds : {D : Type 0} {G : Ghosts D} → Driver D G → Before → Type 0
-Holds {G = G} d b =
-    AreMetered (fused_meter G.meter) (numbers_in d) d.shared.servers.items d.shared.log.events b.counts × HasPicture d b.log × (is_known G.tells b ≡ true → HasJournal d b) × GoesAfter b
+abbrev pub HoldsBetweenTurns : {D : Type 0} {G : Ghosts D} → Driver D G → Before → Type 0
+HoldsBetweenTurns {G = G} d b =
+    AreMetered (fused_meter G.meter) (numbers_in d) d.shared.servers.items d.shared.log.events b.counts × IsCoherentAfter d b.log × (is_known G.tells b ≡ true → StandsForJournal d b) × GoesAfter b
 
 -- where a play ended they do, or the faults of each word are counted, and a journal may have one call more
-abbrev pub Leaves : {D : Type 0} {G : Ghosts D} → Driver D G → Before → Type 0
-Leaves {G = G} d b =
-    Holds d b
+abbrev pub LeavesAtEnd : {D : Type 0} {G : Ghosts D} → Driver D G → Before → Type 0
+LeavesAtEnd {G = G} d b =
+    HoldsBetweenTurns d b
     ⊎ (AreCounted (fused_meter G.meter) (numbers_in d) d.shared.servers.items d.shared.log.events b.counts × HasRightDisks d b.log × (is_known G.tells b ≡ true → LeavesJournal d b) × GoesAfter b)

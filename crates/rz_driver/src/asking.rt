@@ -7,7 +7,7 @@ ghost use Rattle.rz_export_model.specs.Export.{published_after};
 ghost use Rattle.rz_metadata.specs.Stands.{export_in};
 ghost use Rattle.rz_node.specs.Spends.{fetch_used};
 ghost use Rattle.rz_node_model.specs.NodeEvents.{fetch_event};
-ghost use Rattle.rz_scrub_report.specs.Stores.{IsRead};
+ghost use Rattle.rz_scrub_report.specs.Stores.{AreBinsRead};
 ghost use Rattle.rz_driver.specs.Worlds.{IsDriver};
 ghost use Rattle.rz_driver_nodes.specs.Fetches.{IsFetch};
 ghost use Rattle.rz_driver_nodes.specs.Meters.{CarriesCounts};
@@ -36,7 +36,7 @@ impl<D: Disk> Driver<D> {
         requires ready { IsDriver self.old }
         requires room { max_bins_of self.old.volume.layout ≤ length out.old }
         ensures fetched { IsFetch key stamp result node self.old.shared.servers.items self.new.shared.servers.items }
-        ensures read { IsRead (GivesOf self.old node key) result out.old out.new }
+        ensures read { AreBinsRead (GivesOf self.old node key) result out.old out.new }
         ensures unread { fetch_used result ≢ Some true → out.new ≡ out.old }
 
         // Behind the most bins that a record has nothing is written, also where a disk does not tell what it holds.

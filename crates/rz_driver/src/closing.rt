@@ -13,7 +13,7 @@ ghost use Rattle.rz_nodes.specs.Formatted.{disks_of};
 ghost use Rattle.rz_driver.specs.Continued.{AreLeft, EndsWhole};
 ghost use Rattle.rz_driver.specs.Endings.{EndsAsRefused, StandsForLog};
 ghost use Rattle.rz_driver.specs.Journals.{journal_place};
-ghost use Rattle.rz_driver.specs.Worlds.{numbers_in, is_known, Holds, Leaves};
+ghost use Rattle.rz_driver.specs.Worlds.{numbers_in, is_known, HoldsBetweenTurns, LeavesAtEnd};
 
 use crate::driver::Driver;
 use rz_disk::{Disk, Fused};
@@ -35,8 +35,8 @@ impl<D: Disk> Driver<D> {
     pub fn close(self) -> (Vec<Event>, Vec<D>)
         ensures log { result.0.items ≡ reverse self.shared.log.events }
         ensures disks { result.1.items ≡ disks_of self.shared.servers.items }
-        ensures counted { (b : Before) → Leaves self b → AreDisksCounted D.meter b.counts 0 (numbers_in self) result.1.items self.shared.log.events }
-        ensures imaged { (b : Before) → Leaves self b → IsTrue D.tells → AreDisksImaged D.image self.volume (numbers_in self) result.1.items (self.shared.log.events ++ b.log) }
+        ensures counted { (b : Before) → LeavesAtEnd self b → AreDisksCounted D.meter b.counts 0 (numbers_in self) result.1.items self.shared.log.events }
+        ensures imaged { (b : Before) → LeavesAtEnd self b → IsTrue D.tells → AreDisksImaged D.image self.volume (numbers_in self) result.1.items (self.shared.log.events ++ b.log) }
 
         // Where records were asked after the play, the faults are counted with those asks, and the images are told by
         // the log of the play still.
@@ -79,14 +79,14 @@ impl<D: Disk> Driver<D> {
     pub fn close_all(self) -> (Vec<Event>, Vec<D>)
         ensures log { result.0.items ≡ reverse self.shared.log.events }
         ensures disks { result.1.items ≡ disks_of self.shared.servers.items ++ option_to_list (disk_of self.shared.export) }
-        ensures counted { (b : Before) → Leaves self b → AreDisksCounted D.meter b.counts 0 (numbers_in self) (disks_of self.shared.servers.items) self.shared.log.events }
-        ensures imaged { (b : Before) → Leaves self b → IsTrue D.tells → AreDisksImaged D.image self.volume (numbers_in self) (disks_of self.shared.servers.items) (self.shared.log.events ++ b.log) }
+        ensures counted { (b : Before) → LeavesAtEnd self b → AreDisksCounted D.meter b.counts 0 (numbers_in self) (disks_of self.shared.servers.items) self.shared.log.events }
+        ensures imaged { (b : Before) → LeavesAtEnd self b → IsTrue D.tells → AreDisksImaged D.image self.volume (numbers_in self) (disks_of self.shared.servers.items) (self.shared.log.events ++ b.log) }
 
         // Between two turns a journal's disk stands for the calls that changed the export of the log.
-        ensures stands { (b : Before) (disk : D) → Holds self b → disk_of self.shared.export ≡ Some disk → IsTrue D.tells → StandsForLog (D.image disk) self.volume (self.shared.log.events ++ b.log) }
+        ensures stands { (b : Before) (disk : D) → HoldsBetweenTurns self b → disk_of self.shared.export ≡ Some disk → IsTrue D.tells → StandsForLog (D.image disk) self.volume (self.shared.log.events ++ b.log) }
 
         // Where a play ended, for these still, or also for one call more, by what the journal refused.
-        ensures ends { (b : Before) (disk : D) → Leaves self b → is_known D.tells b ≡ true → disk_of self.shared.export ≡ Some disk
+        ensures ends { (b : Before) (disk : D) → LeavesAtEnd self b → is_known D.tells b ≡ true → disk_of self.shared.export ≡ Some disk
             → EndsAsRefused (refusal_of self.shared.export) D.tells (D.image disk) (b.counts (journal_place self)) (faults (D.meter disk)) self.volume (self.shared.log.events ++ b.log) }
 
         // Where the play ended between two turns, or the journal was full, the disks are what a next run wants: `again` takes

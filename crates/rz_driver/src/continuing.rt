@@ -7,11 +7,11 @@ ghost use Rattle.rz_events.specs.declared.export.Call.{Call as ACall};
 ghost use Rattle.rz_events.specs.declared.events.Event.{Event as AnEvent};
 ghost use Rattle.rz_metadata.specs.Reopened.{AllTextsOf, IsAsItCame, MakesExport};
 ghost use Rattle.rz_metadata.specs.Stands.{disk_of, export_in, is_journaled, Stands};
-ghost use Rattle.rz_nodes.specs.Opened.{AreKept};
+ghost use Rattle.rz_nodes.specs.Opened.{AreDisksBack};
 ghost use Rattle.rz_restart_laws.specs.Earlier.{IsEarlier, IsRestarted};
 ghost use Rattle.rz_driver_nodes.specs.Meters.{faults_at};
 ghost use Rattle.rz_driver.specs.Continued.{journal_refusal, AreLeft, IsCauseAgain, IsJournalCause, IsOpenedAgain, IsOpenedOver, IsRefusedOver};
-ghost use Rattle.rz_driver.specs.Worlds.{left_behind, IsDriver, Holds};
+ghost use Rattle.rz_driver.specs.Worlds.{left_behind, IsDriver, HoldsBetweenTurns};
 
 use crate::driver::Driver;
 use crate::journaling::{split_last, with_last};
@@ -44,11 +44,11 @@ impl<D: Disk> Driver<D> {
         // Over disks that tell their texts a play goes on after the log of the earlier runs, in which each node that was up is
         // stopped and each node is started, whatever that log is.
         ensures held { IfOk result (λ d. IsTrue D.tells → (h : List AnEvent) → IsEarlier volume.now h → AreLeft D.image volume.now h disks.items
-            → (old : List AnEvent) × IsRestarted volume.now h old × Holds d (left_behind (faults_at D.meter disks.items) old)) }
+            → (old : List AnEvent) × IsRestarted volume.now h old × HoldsBetweenTurns d (left_behind (faults_at D.meter disks.items) old)) }
 
         // Over others nothing is said of the earlier log.
-        ensures untold { IfOk result (λ d. D.tells ≡ false → (old : List AnEvent) → length old < 2 ^ 63 + 512 → Holds d (left_behind (faults_at D.meter disks.items) old)) }
-        ensures back { IfErr result (λ r. AreKept D.meter D.text D.image disks.items r.0.items) }
+        ensures untold { IfOk result (λ d. D.tells ≡ false → (old : List AnEvent) → length old < 2 ^ 63 + 512 → HoldsBetweenTurns d (left_behind (faults_at D.meter disks.items) old)) }
+        ensures back { IfErr result (λ r. AreDisksBack D.meter D.text D.image disks.items r.0.items) }
         ensures cause { IfErr result (λ r. IsCauseAgain D.tells D.meter D.text D.image volume.now disks.items r.0.items r.1) }
     {
         rz_restart_laws::found::<D>();

@@ -3,9 +3,9 @@ ghost use Rattle.std.specs.Prelude.{◌≡◌, OnOk, OnErr};
 ghost use Rattle.rz_script.specs.Lines.{IsLine};
 ghost use Rattle.rz_script.specs.declared.line.Line.TheVariants as line;
 ghost use Rattle.rz_play.specs.Lines.{PlaysLineOver};
-ghost use Rattle.rz_player.specs.Ends.{Carries};
+ghost use Rattle.rz_player.specs.Ends.{StaysTrue};
 ghost use Rattle.rz_metadata.specs.Stands.{is_journaled};
-ghost use Rattle.rz_driver.specs.Worlds.{world_of, IsDriver, Holds, Leaves};
+ghost use Rattle.rz_driver.specs.Worlds.{world_of, IsDriver, HoldsBetweenTurns, LeavesAtEnd};
 
 use crate::Halted;
 use crate::driver::Driver;
@@ -24,8 +24,8 @@ impl<D: Disk> Driver<D> {
         ensures played { OnOk result (PlaysLineOver self.old.volume (line.Op by op.now) D.tells (world_of self.old) (world_of self.new)) }
         ensures lost { self.new.shared.lost ≡ self.old.shared.lost }
         ensures log { OnErr result (self.new.shared.log.events ≡ self.old.shared.log.events) }
-        ensures held { OnOk result (Carries (Holds self.old) (Holds self.new)) }
-        ensures left { OnErr result (Carries (Holds self.old) (Leaves self.new)) }
+        ensures held { OnOk result (StaysTrue (HoldsBetweenTurns self.old) (HoldsBetweenTurns self.new)) }
+        ensures left { OnErr result (StaysTrue (HoldsBetweenTurns self.old) (LeavesAtEnd self.new)) }
     {
         rz_play_laws::lined();
         let Some(place) = place(by) else {
@@ -46,8 +46,8 @@ impl<D: Disk> Driver<D> {
         ensures played { OnOk result (PlaysLineOver self.old.volume (line.Miss by reply) D.tells (world_of self.old) (world_of self.new)) }
         ensures lost { self.new.shared.lost ≡ self.old.shared.lost }
         ensures log { OnErr result (self.new.shared.log.events ≡ self.old.shared.log.events) }
-        ensures held { OnOk result (Carries (Holds self.old) (Holds self.new)) }
-        ensures left { OnErr result (Carries (Holds self.old) (Leaves self.new)) }
+        ensures held { OnOk result (StaysTrue (HoldsBetweenTurns self.old) (HoldsBetweenTurns self.new)) }
+        ensures left { OnErr result (StaysTrue (HoldsBetweenTurns self.old) (LeavesAtEnd self.new)) }
     {
         rz_play_laws::lined();
         let Some(place) = place(by) else {

@@ -10,7 +10,7 @@ use rz_player::{Halted, LoggedStage, PlayEnd, Stage};
 use rz_script::Line;
 
 impl<D: Disk> Stage for Driver<D> {
-    ghost use Rattle.rz_driver.specs.Worlds.{world_of, IsDriver, Holds, Leaves};
+    ghost use Rattle.rz_driver.specs.Worlds.{world_of, IsDriver, HoldsBetweenTurns, LeavesAtEnd};
     ghost use Rattle.rz_driver.specs.Endings.{end_by};
     ghost use Rattle.rz_metadata.specs.Stands.{is_journaled, refusal_of};
     ghost use Rattle.std.proofs.Common.{inl};
@@ -27,9 +27,9 @@ impl<D: Disk> Stage for Driver<D> {
 
     ghost is_ready = { λ d. IsDriver d };
 
-    ghost holds = { λ d. Holds d };
+    ghost holds = { λ d. HoldsBetweenTurns d };
 
-    ghost leaves = { λ d. Leaves d };
+    ghost leaves = { λ d. LeavesAtEnd d };
 
     ghost ends = { λ d b held. inl held };
 

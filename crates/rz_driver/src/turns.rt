@@ -4,9 +4,9 @@ ghost use Rattle.rz_play.specs.Stops.{most_turns};
 ghost use Rattle.rz_play.specs.Free.{IsTurnOver};
 ghost use Rattle.rz_play.specs.World.{has_work};
 ghost use Rattle.rz_player.specs.Behind.{Before, behind};
-ghost use Rattle.rz_player.specs.Ends.{Carries};
+ghost use Rattle.rz_player.specs.Ends.{StaysTrue};
 ghost use Rattle.rz_metadata.specs.Stands.{is_journaled};
-ghost use Rattle.rz_driver.specs.Worlds.{place_of, world_of, IsDriver, Holds, Leaves};
+ghost use Rattle.rz_driver.specs.Worlds.{place_of, world_of, IsDriver, HoldsBetweenTurns, LeavesAtEnd};
 
 use crate::Halted;
 use crate::driver::Driver;
@@ -35,12 +35,12 @@ impl<D: Disk> Driver<D> {
         ensures volume { self.new.volume ≡ self.old.volume }
         ensures journal { is_journaled self.new.shared.export ≡ is_journaled self.old.shared.export }
         ensures counted { OnOk result (self.new.turns ≡ self.old.turns + 1) }
-        ensures taken { OnOk result ((b : Before) → Holds self.old b → IsTurnOver self.old.volume by D.tells (behind b.log (world_of self.old)) (behind b.log (world_of self.new))) }
+        ensures taken { OnOk result ((b : Before) → HoldsBetweenTurns self.old b → IsTurnOver self.old.volume by D.tells (behind b.log (world_of self.old)) (behind b.log (world_of self.new))) }
         ensures link { self.new.shared.lost + L.lost link.old ≤ self.old.shared.lost + L.lost link.new }
         ensures log { OnErr result (self.new.shared.log.events ≡ self.old.shared.log.events) }
         ensures lost { OnErr result (self.new.shared.lost ≡ self.old.shared.lost) }
-        ensures held { OnOk result (Carries (Holds self.old) (Holds self.new)) }
-        ensures left { OnErr result (Carries (Holds self.old) (Leaves self.new)) }
+        ensures held { OnOk result (StaysTrue (HoldsBetweenTurns self.old) (HoldsBetweenTurns self.new)) }
+        ensures left { OnErr result (StaysTrue (HoldsBetweenTurns self.old) (LeavesAtEnd self.new)) }
     {
         rz_play_laws::own_proper();
         rz_play_laws::working();
@@ -56,7 +56,7 @@ impl<D: Disk> Driver<D> {
         self.shared.log.make_room()?;
         let layout = self.volume.layout;
         let agenda = &mut self.agendas[place];
-        agenda.take_up(self.alloc, layout)?;
+        agenda.begin_next(self.alloc, layout)?;
         act(self.alloc, layout, by, agenda, &mut self.shared, link)?;
         self.turns += 1;
         Ok(())

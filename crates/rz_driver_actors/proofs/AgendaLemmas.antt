@@ -4,10 +4,10 @@ use Rattle.rz_events.specs.declared.operations.Operation.{Operation}
 use Rattle.rz_events.specs.declared.operations.Operation.TheVariants as operation
 use Rattle.rz_operation_model.specs.Work.{Work, Calling, Dropping, Opening, Locking, Writing, Reading, Rebuilding, Ending, Over}
 use Rattle.rz_operation_model.specs.Steps.{begun}
-use Rattle.rz_play.specs.World.{Agenda, take_up, at_work, is_over}
+use Rattle.rz_play.specs.World.{Agenda, begin_next, at_work, is_over}
 
 -- an operation in hand stays
-pub same-work : (s : Agenda) (work : Work) (ops : List Operation) → is_over work ≡ false → take_up s work ops ≡ s
+pub same-work : (s : Agenda) (work : Work) (ops : List Operation) → is_over work ≡ false → begin_next s work ops ≡ s
 same-work s Over ops busy = absurd (cc)
 same-work s (Calling c) ops busy = refl
 same-work s (Dropping fid n places) ops busy = refl
@@ -19,7 +19,7 @@ same-work s (Rebuilding n r) ops busy = refl
 same-work s (Ending answer) ops busy = refl
 
 -- nothing to do
-pub no-work : (s : Agenda) (work : Work) → take_up s work [] ≡ s
+pub no-work : (s : Agenda) (work : Work) → begin_next s work [] ≡ s
 no-work s Over = refl
 no-work s (Calling c) = refl
 no-work s (Dropping fid n places) = refl
@@ -42,7 +42,7 @@ over-is (Rebuilding n r) is = absurd (cc)
 over-is (Ending answer) is = absurd (cc)
 
 -- the next operation
-pub next-work : (s : Agenda) (work : Work) (op : Operation) (ops : List Operation) → is_over work ≡ true → take_up s work (op ∷ ops) ≡ record s { todo = ops; number = s.number + 1; work = begun op }
+pub next-work : (s : Agenda) (work : Work) (op : Operation) (ops : List Operation) → is_over work ≡ true → begin_next s work (op ∷ ops) ≡ record s { todo = ops; number = s.number + 1; work = begun op }
 next-work s Over op ops is = refl
 next-work s (Calling c) op ops is = absurd (cc)
 next-work s (Dropping fid n places) op ops is = absurd (cc)
@@ -73,4 +73,4 @@ pub taken-up : (s : Agenda) (op : Operation) (ops : List Operation) (number : �
 taken-up s op ops number work over todo num is =
     ap (λ (n : ℕ). record s { todo = ops; number = n; work = work }) num
     ∙ ap (λ (w : Work). record s { todo = ops; number = s.number + 1; work = w }) is
-    ∙ sym (ap (take_up s s.work) todo ∙ next-work s s.work op ops over)
+    ∙ sym (ap (begin_next s s.work) todo ∙ next-work s s.work op ops over)

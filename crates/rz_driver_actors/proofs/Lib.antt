@@ -1,5 +1,5 @@
 mod AgendaLemmas
 mod MessageLemmas
-pub mod ActPictures
+pub mod ActCoherence
 pub mod ExportEvents
 pub mod StoreLemmas

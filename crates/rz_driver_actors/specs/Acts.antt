@@ -14,16 +14,16 @@ use Rattle.rz_operation.specs.Machine.{Machine}
 use Rattle.rz_operation_model.specs.Ask.{Ask, AskExport, AskNode, AskLock, Say, Rest, Saying, ask_of}
 use Rattle.rz_metadata.specs.Stands.{export_in}
 use Rattle.rz_play.specs.Turns.{IsLost, IsThrough, lost_after}
-use Rattle.rz_driver_actors.specs.declared.acting.AskKind.{AskKind}
-use Rattle.rz_driver_actors.specs.declared.acting.AskKind.TheVariants as kind
-use Rattle.rz_driver_actors.specs.declared.agenda.Agenda.{Agenda}
+use Rattle.rz_driver_actors.specs.declared.turn_acts.AskKind.{AskKind}
+use Rattle.rz_driver_actors.specs.declared.turn_acts.AskKind.TheVariants as kind
+use Rattle.rz_driver_actors.specs.declared.actor_agenda.Agenda.{Agenda}
 use Rattle.rz_driver_actors.specs.declared.shared.Shared.{Shared}
 use Rattle.rz_nodes.specs.declared.formatting.Server.{Server}
 use Rattle.rz_driver_asks.specs.Locking.{IsOpenPart}
 use Rattle.rz_driver_nodes.specs.Nodes.{IsAsked, IsThroughPart, IsReplyLostPart, IsRequestLostPart}
 use Rattle.rz_driver_asks.specs.Parts.{IsExportPart, IsSayPart}
 use Rattle.rz_driver_actors.specs.Agendas.{work_in}
-use Rattle.rz_driver_nodes.specs.Servers.{IsAt, IsCalled}
+use Rattle.rz_driver_nodes.specs.Servers.{IsServerAt, IsCalled}
 
 abbrev pub HasLayouts : {D : Type 0} → Layout → List (Server D) → Type 0
 HasLayouts {D = D} layout servers = AllByRecursion (λ (s : Server D). s.node.geometry.layout ≡ layout) servers
@@ -46,11 +46,11 @@ pub data IsFate {D J : Type 0} (by : Actor) (n : ℕ) (question : NodeAsk) (s s'
   RequestLost : s' ≡ s → IsRequestLostPart by n old new p.log.events q.log.events → IsLost miss question false → miss' ≡ None → q.lost ≡ lost_after miss p.lost
       → IsFate by n question s s' old new miss miss' p q
 
-pub record IsMessage {D J : Type 0} (by : Actor) (n : ℕ) (question : NodeAsk) (old new : Machine) (miss miss' : Option Bool) (p q : Shared D J) : Type 0 where
+pub record IsActorMessage {D J : Type 0} (by : Actor) (n : ℕ) (question : NodeAsk) (old new : Machine) (miss miss' : Option Bool) (p q : Shared D J) : Type 0 where
   pub place : ℕ
   pub server : Server D
   pub after : Server D
-  pub at : IsAt p.servers.items n place
+  pub at : IsServerAt p.servers.items n place
   pub is : slice_get p.servers.items place ≡ Some server
   pub called : IsCalled server after
   pub servers : q.servers.items ≡ slice_set p.servers.items place after
@@ -67,7 +67,7 @@ abbrev pub lock_left : Bool → Option (Range × LockKind) → Option (Range × 
 lock_left true lock = None
 lock_left false lock = lock
 
-pub record IsReleased (done : Bool) (by : Actor) (lock lock' : Option (Range × LockKind)) (locks locks' : Held) : Type 0 where
+pub record IsLockReleased (done : Bool) (by : Actor) (lock lock' : Option (Range × LockKind)) (locks locks' : Held) : Type 0 where
   pub lock_is : lock' ≡ lock_left done lock
   pub locks_are : locks' ≡ locks_after done by locks
 
@@ -85,9 +85,9 @@ pub data IsAct {D J : Type 0} (layout : Layout) (by : Actor) (a b : Agenda) (p q
       → IsOpenPart by old new (export_in p.export) (export_in q.export) p.locks q.locks a.lock b.lock p.log.events q.log.events → q.servers.items ≡ p.servers.items → q.lost ≡ p.lost
       → IsAct layout by a b p q
   Sends : (old new : Machine) → a.machine ≡ Some old → b.machine ≡ Some new → IsSameActor a b → b.lock ≡ a.lock
-      → (n : ℕ) (question : NodeAsk) → IsAsked old n question → IsMessage by n question old new a.miss b.miss p q
+      → (n : ℕ) (question : NodeAsk) → IsAsked old n question → IsActorMessage by n question old new a.miss b.miss p q
       → IsAct layout by a b p q
   Says : (old new : Machine) → a.machine ≡ Some old → b.machine ≡ Some new → IsSameActor a b → b.miss ≡ a.miss
-      → (done : Bool) → IsSayPart by a.number done old new p.log.events q.log.events → IsReleased done by a.lock b.lock p.locks q.locks
+      → (done : Bool) → IsSayPart by a.number done old new p.log.events q.log.events → IsLockReleased done by a.lock b.lock p.locks q.locks
       → q.servers.items ≡ p.servers.items → q.export ≡ p.export → q.lost ≡ p.lost
       → IsAct layout by a b p q

@@ -7,7 +7,7 @@ use Rattle.rz_operation.specs.Machine.{Machine}
 use Rattle.rz_operation.specs.Answers.{IsOperation}
 use Rattle.rz_operation_model.specs.Work.{Work, Over}
 use Rattle.rz_play.specs.World.{Agenda as APlayer, is_over}
-use Rattle.rz_driver_actors.specs.declared.agenda.Agenda.{Agenda}
+use Rattle.rz_driver_actors.specs.declared.actor_agenda.Agenda.{Agenda}
 use Rattle.rz_driver_asks.specs.Locking.{lock_of}
 
 abbrev pub work_in : Option Machine → Work

@@ -22,11 +22,11 @@ IsTrueAgenda v f by (Some m) = IsTrueActor v f by m
 
 -- What a turn of an actor keeps, which makes of the nodes xs and the log h the nodes ys and the log h', behind any earlier log.
 
-abbrev pub KeepsPicture : {D : Type 0} → (D → List ℕ → Type 0) → Actor → Option Machine → Option Machine → List (Server D) → List Event → List (Server D) → List Event → Type 0
-KeepsPicture image by m m' xs h ys h' =
+abbrev pub StaysCoherent : {D : Type 0} → (D → List ℕ → Type 0) → Actor → Option Machine → Option Machine → List (Server D) → List Event → List (Server D) → List Event → Type 0
+StaysCoherent image by m m' xs h ys h' =
     (v : Volume) (old : List Event) → IsTrueAgenda v (facts (h ++ old)) by m → AreImaged image v (facts (h ++ old)) xs → HasTrueHand v (facts (h' ++ old)) m' × AreImaged image v (facts (h' ++ old)) ys
 
 -- where it ends for want of memory, the states of all nodes are as before
-abbrev pub SparesPicture : {D : Type 0} → (D → List ℕ → Type 0) → Actor → Option Machine → List (Server D) → List Event → List (Server D) → Type 0
-SparesPicture image by m xs h ys =
+abbrev pub LeavesUnchanged : {D : Type 0} → (D → List ℕ → Type 0) → Actor → Option Machine → List (Server D) → List Event → List (Server D) → Type 0
+LeavesUnchanged image by m xs h ys =
     (v : Volume) (old : List Event) → IsTrueAgenda v (facts (h ++ old)) by m → AreImaged image v (facts (h ++ old)) xs → AreImaged image v (facts (h ++ old)) ys × (state_in ys ≡ state_in xs)

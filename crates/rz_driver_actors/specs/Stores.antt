@@ -23,7 +23,7 @@ pub record IsSameStore {D : Type 0} (m m' : Metadata D) : Type 0 where
 
 -- What a turn makes of the journal and of the events of the export's word: the machine's call was replied to and the event of the
 -- reply noted, or nothing was asked of the export.
-pub data IsExportTurn {D : Type 0} (tells : Bool) (meter : D → Meter) (image : D → List ℕ → Type 0) (by : Actor) (machine : Option Machine) (m m' : Metadata D) (h h' : List Event) : Type 0 where
+pub data TurnsExport {D : Type 0} (tells : Bool) (meter : D → Meter) (image : D → List ℕ → Type 0) (by : Actor) (machine : Option Machine) (m m' : Metadata D) (h h' : List Event) : Type 0 where
   Asks : (asker : Machine) (c : Call) → machine ≡ Some asker → call_asked (ask_of asker.layout asker.work) ≡ Some c → KeepsCall tells meter image c m m' → IsNoted (export_event by c (export_reply (export_in m) c)) h h'
-      → IsExportTurn tells meter image by machine m m' h h'
-  AsksNothing : m' ≡ m → of_word Export h' ≡ of_word Export h → IsExportTurn tells meter image by machine m m' h h'
+      → TurnsExport tells meter image by machine m m' h h'
+  AsksNothing : m' ≡ m → of_word Export h' ≡ of_word Export h → TurnsExport tells meter image by machine m m' h h'

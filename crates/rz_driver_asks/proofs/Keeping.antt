@@ -14,7 +14,7 @@ use Rattle.rz_metadata.specs.declared.metadata.Metadata.{Metadata}
 use Rattle.rz_metadata.specs.Stands.{export_in, Stands, StandsAtEnd}
 use Rattle.rz_operation.specs.Machine.{Machine}
 use Rattle.rz_operation_model.specs.Ask.{AskExport, AskLock, ask_of}
-use Rattle.rz_metadata.specs.Journals.{HasBytes, KeepsCall, EndsWith, EndsOn}
+use Rattle.rz_metadata.specs.Journals.{WritesBytes, KeepsCall, EndsWith, EndsOn}
 use Rattle.rz_driver_asks.specs.Asked.{call_asked, KeepsAsked}
 
 same-call : (a c : Call) → Some a ≡ Some c → a ≡ c
@@ -31,7 +31,7 @@ module _ {D : Type 0} (tells : Bool) (meter : D → Meter) (image : D → List �
 
   -- ---- a reply
 
-  one-call : (n : Metadata D) (machine : Machine) (a : Call) (r : Reply) → call_asked (ask_of machine.layout machine.work) ≡ Some a → r ≡ export_reply (export_in m) a → HasBytes a → Replies a r n
+  one-call : (n : Metadata D) (machine : Machine) (a : Call) (r : Reply) → call_asked (ask_of machine.layout machine.work) ≡ Some a → r ≡ export_reply (export_in m) a → WritesBytes a → Replies a r n
       → KeepsAsked tells meter image machine m n
   one-call n machine a r asks says bytes stands = λ c is.
       subst (λ (x : Call). KeepsCall tells meter image x m n) (same-call a c (sym asks ∙ is)) (record {
@@ -40,7 +40,7 @@ module _ {D : Type 0} (tells : Bool) (meter : D → Meter) (image : D → List �
       })
 
   -- to a call of the export
-  pub keeps-asked : (n : Metadata D) (machine : Machine) (a : Call) (r : Reply) → AskExport a ≡ ask_of machine.layout machine.work → r ≡ export_reply (export_in m) a → HasBytes a → Replies a r n
+  pub keeps-asked : (n : Metadata D) (machine : Machine) (a : Call) (r : Reply) → AskExport a ≡ ask_of machine.layout machine.work → r ≡ export_reply (export_in m) a → WritesBytes a → Replies a r n
       → KeepsAsked tells meter image machine m n
   keeps-asked n machine a r asks = one-call n machine a r (ap call_asked (sym asks))
 

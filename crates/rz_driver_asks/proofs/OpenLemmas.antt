@@ -14,11 +14,11 @@ use Rattle.rz_locks.specs.declared.conflict.Lock.{Lock}
 use Rattle.rz_locks.specs.declared.conflict.LockKind.{LockKind}
 use Rattle.rz_locks.specs.declared.conflict.Range.{Range}
 use Rattle.rz_locks.specs.Held.{Held}
-use Rattle.rz_operation.specs.Answers.{Goes}
+use Rattle.rz_operation.specs.Answers.{IsWorkAfter}
 use Rattle.rz_operation.specs.Machine.{Machine}
 use Rattle.rz_operation_model.specs.Steps.{Locked}
 use Rattle.rz_play.specs.Turns.{lock_on}
-use Rattle.rz_driver_asks.specs.Locking.{lock_of, Grants, lock_if, open_reply, IsOpened}
+use Rattle.rz_driver_asks.specs.Locking.{lock_of, Grants, lock_if, open_reply, IsFileOpened}
 use Rattle.rz_driver_asks.specs.Parts.{IsNoted}
 
 pub none-lock : (held : Option (Range × LockKind)) → is_some held ≡ false → lock_of held ≡ None
@@ -30,8 +30,8 @@ pub opened : (by : Actor) (owner : ℕ) (c copy : TreeCall) (path : List ℕ) (r
     → by ≡ Client owner → copy ≡ c → c ≡ tree.OpenFile path → r ≡ export_reply s (call.Tree c)
     → IsNoted (export_event (Client owner) (call.Tree copy) r) log log2 → s2 ≡ export_after s (call.Tree c) → held ≡ None
     → wanted ≡ lock_on r exclusive from count → Grants locks owner wanted granted locks2 → held2 ≡ lock_if granted wanted held
-    → Goes old old.pairs (Locked granted r) new
-    → IsOpened by owner path (lock_on (open_reply s path) exclusive from count) old new s s2 locks locks2 held held2 log log2
+    → IsWorkAfter old old.pairs (Locked granted r) new
+    → IsFileOpened by owner path (lock_on (open_reply s path) exclusive from count) old new s s2 locks locks2 held held2 log log2
 opened by owner c copy path r exclusive from count wanted granted old new s s2 locks locks2 held held2 log log2 by_is copy_is opens says notes after none asks grants holds goes =
     let replied : r ≡ open_reply s path = says ∙ ap (λ (x : TreeCall). export_reply s (call.Tree x)) opens in
     let asked : wanted ≡ lock_on (open_reply s path) exclusive from count = asks ∙ ap (λ (x : Reply). lock_on x exclusive from count) replied in
@@ -45,5 +45,5 @@ opened by owner c copy path r exclusive from count wanted granted old new s s2 l
       none_held = none;
       grants = subst (λ (x : Option Lock). Grants locks owner x granted locks2) asked grants;
       held_is = holds ∙ ap (λ (x : Option Lock). lock_if granted x held) asked;
-      goes = subst (λ (x : Reply). Goes old old.pairs (Locked granted x) new) replied goes;
+      goes = subst (λ (x : Reply). IsWorkAfter old old.pairs (Locked granted x) new) replied goes;
     }

@@ -14,7 +14,7 @@ use Rattle.rz_locks.specs.declared.conflict.Lock.{Lock}
 use Rattle.rz_locks.specs.declared.conflict.LockKind.{LockKind}
 use Rattle.rz_locks.specs.declared.conflict.Range.{Range}
 use Rattle.rz_locks.specs.Held.{Held, Blocks}
-use Rattle.rz_operation.specs.Answers.{Goes}
+use Rattle.rz_operation.specs.Answers.{IsWorkAfter}
 use Rattle.rz_operation.specs.Machine.{Machine}
 use Rattle.rz_operation_model.specs.Ask.{AskLock, ask_of}
 use Rattle.rz_operation_model.specs.Steps.{Locked}
@@ -40,7 +40,7 @@ abbrev pub open_reply : Export → List ℕ → Reply
 open_reply s path = export_reply s (call.Tree (tree.OpenFile path))
 
 -- The file was opened, and its bytes locked where no held lock conflicts.
-pub record IsOpened (by : Actor) (owner : ℕ) (path : List ℕ) (asked : Option Lock) (old new : Machine) (s s' : Export) (locks locks' : Held) (held held' : Option Lock) (log log' : List Event) : Type 0 where
+pub record IsFileOpened (by : Actor) (owner : ℕ) (path : List ℕ) (asked : Option Lock) (old new : Machine) (s s' : Export) (locks locks' : Held) (held held' : Option Lock) (log log' : List Event) : Type 0 where
   pub granted : Bool
   pub owner_is : by ≡ Client owner
   pub noted : IsNoted (export_event by (call.Tree (tree.OpenFile path)) (open_reply s path)) log log'
@@ -48,9 +48,9 @@ pub record IsOpened (by : Actor) (owner : ℕ) (path : List ℕ) (asked : Option
   pub none_held : held ≡ None
   pub grants : Grants locks owner asked granted locks'
   pub held_is : held' ≡ lock_if granted asked held
-  pub goes : Goes old old.pairs (Locked granted (open_reply s path)) new
+  pub goes : IsWorkAfter old old.pairs (Locked granted (open_reply s path)) new
 
 abbrev pub IsOpenPart : Actor → Machine → Machine → Export → Export → Held → Held → Option (Range × LockKind) → Option (Range × LockKind) → List Event → List Event → Type 0
 IsOpenPart by old new s s' locks locks' held held' log log' =
     (path : List ℕ) × (exclusive : Bool) × (from : ℕ) × (count : ℕ) × (ask_of old.layout old.work ≡ AskLock path exclusive from count)
-    × ((owner : ℕ) × IsOpened by owner path (lock_on (open_reply s path) exclusive from count) old new s s' locks locks' (lock_of held) (lock_of held') log log')
+    × ((owner : ℕ) × IsFileOpened by owner path (lock_on (open_reply s path) exclusive from count) old new s s' locks locks' (lock_of held) (lock_of held') log log')

@@ -5,7 +5,7 @@ use Rattle.rz_events.specs.declared.export.Call.{Call}
 use Rattle.rz_events.specs.declared.events.Event.{Event}
 use Rattle.rz_export_model.specs.Export.{Export, export_reply, export_after}
 use Rattle.rz_export_model.specs.ExportEvents.{export_event}
-use Rattle.rz_operation.specs.Answers.{Goes}
+use Rattle.rz_operation.specs.Answers.{IsWorkAfter}
 use Rattle.rz_operation.specs.Machine.{Machine, text_of}
 use Rattle.rz_operation_model.specs.Ask.{AskExport, Say, Saying, SayDone, ask_of}
 use Rattle.rz_operation_model.specs.Steps.{Told, Replied, Noted, told}
@@ -16,16 +16,16 @@ use Rattle.rz_driver_asks.specs.declared.replies.CallTexts.{CallTexts}
 use Rattle.rz_driver_asks.specs.declared.replies.CallTexts.TheVariants as words
 
 -- the texts of what is asked, for the log
-abbrev pub AreWords : CallRef → CallTexts → Type 0
-AreWords (export.Tree c) (words.Call copy) = copy ≡ c.now
-AreWords (export.Tree c) given = ⊥
-AreWords (export.Begin key text) (words.Text copy) = copy ≡ text.now
-AreWords (export.Begin key text) given = ⊥
-AreWords ask words.Nothing = Unit {0}
-AreWords ask given = ⊥
+abbrev pub AreCallTexts : CallRef → CallTexts → Type 0
+AreCallTexts (export.Tree c) (words.Call copy) = copy ≡ c.now
+AreCallTexts (export.Tree c) given = ⊥
+AreCallTexts (export.Begin key text) (words.Text copy) = copy ≡ text.now
+AreCallTexts (export.Begin key text) given = ⊥
+AreCallTexts ask words.Nothing = Unit {0}
+AreCallTexts ask given = ⊥
 
 -- the machine was told this
-pub record IsTold (old new : Machine) (t : Told) : Type 0 where
+pub record IsMachineTold (old new : Machine) (t : Told) : Type 0 where
   pub layout : new.layout ≡ old.layout
   pub work : new.work ≡ told old.layout old.work t
 
@@ -37,7 +37,7 @@ IsNoted event old new = (x : Event) × (event ≡ Some x) × (new ≡ x ∷ old)
 pub record IsReplied (by : Actor) (c : Call) (old new : Machine) (s s' : Export) (log log' : List Event) : Type 0 where
   pub noted : IsNoted (export_event by c (export_reply s c)) log log'
   pub after : s' ≡ export_after s c
-  pub goes : Goes old old.pairs (Replied (export_reply s c)) new
+  pub goes : IsWorkAfter old old.pairs (Replied (export_reply s c)) new
 
 abbrev pub IsExportPart : Actor → Machine → Machine → Export → Export → List Event → List Event → Type 0
 IsExportPart by old new s s' log log' = (c : Call) × (ask_of old.layout old.work ≡ AskExport c) × IsReplied by c old new s s' log log'
@@ -49,10 +49,10 @@ is_done (SayDone answer) = true
 is_done said = false
 
 -- The text that the machine has in hand is noted.
-pub record IsSaid (by : Actor) (number : ℕ) (said : Saying) (done : Bool) (old new : Machine) (log log' : List Event) : Type 0 where
+pub record IsSayingNoted (by : Actor) (number : ℕ) (said : Saying) (done : Bool) (old new : Machine) (log log' : List Event) : Type 0 where
   pub done_is : done ≡ is_done said
   pub noted : log' ≡ said_event by number (text_of old) said ∷ log
-  pub goes : Goes old old.pairs (Noted (text_of old)) new
+  pub goes : IsWorkAfter old old.pairs (Noted (text_of old)) new
 
 abbrev pub IsSayPart : Actor → ℕ → Bool → Machine → Machine → List Event → List Event → Type 0
-IsSayPart by number done old new log log' = (said : Saying) × (ask_of old.layout old.work ≡ Say said) × IsSaid by number said done old new log log'
+IsSayPart by number done old new log log' = (said : Saying) × (ask_of old.layout old.work ≡ Say said) × IsSayingNoted by number said done old new log log'

@@ -6,13 +6,13 @@
 //! nor of whose turn it is. `specs/Asked` says what the journal's disk stands for once a machine's call was
 //! replied to.
 //!
-//! In reading order: `replies`, `locking`, `words`.
+//! In reading order: `replies`, `opening`, `sayings`.
 #![tactic(auto)]
 
-mod locking;
+mod opening;
 mod replies;
-mod words;
+mod sayings;
 
-pub use locking::open;
+pub use opening::open;
 pub use replies::ask_export;
-pub use words::say;
+pub use sayings::say;

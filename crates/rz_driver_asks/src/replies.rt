@@ -5,9 +5,9 @@ ghost use Rattle.rz_events.specs.declared.export.Reply.TheVariants as model;
 ghost use Rattle.rz_export_model.specs.ExportEvents.{export_event};
 ghost use Rattle.rz_metadata.specs.Stands.{export_in, is_journaled};
 ghost use Rattle.rz_events.specs.Borrowed.{call_of};
-ghost use Rattle.rz_metadata.specs.Journals.{HasBytes, EndsOn};
+ghost use Rattle.rz_metadata.specs.Journals.{WritesBytes, EndsOn};
 ghost use Rattle.rz_driver_asks.specs.Asked.{KeepsAsked};
-ghost use Rattle.rz_driver_asks.specs.Parts.{AreWords, IsNoted, IsExportPart};
+ghost use Rattle.rz_driver_asks.specs.Parts.{AreCallTexts, IsNoted, IsExportPart};
 
 use rz_disk::Disk;
 use rz_events::{
@@ -74,7 +74,7 @@ pub fn ask_export<D: Disk>(
 
 /// The text of a write that begins is one of bytes, as each text is.
 fn look_into(ask: CallRef<'_>)
-    ensures { HasBytes (call_of ask.entry) }
+    ensures { WritesBytes (call_of ask.entry) }
 {
     if let CallRef::Begin { text, .. } = ask {
         are_bytes(text);
@@ -89,7 +89,7 @@ fn are_bytes(text: &[u8])
 
 /// The texts of a call, in new memory.
 fn words_of(alloc: Global, ask: CallRef<'_>) -> Result<CallTexts, AllocError>
-    ensures { IfOk result (λ w. AreWords ask.entry w) }
+    ensures { IfOk result (λ w. AreCallTexts ask.entry w) }
 {
     match ask {
         CallRef::Tree(call) => Ok(CallTexts::Call(call.copy(alloc)?)),
@@ -111,7 +111,7 @@ fn note_reply(
     reply: &Reply,
     log: &mut Log,
 ) -> Result<(), Halted>
-    requires words { AreWords ask words }
+    requires words { AreCallTexts ask words }
     requires room { 0 < log.old.room }
     ensures ok { OnOk result (IsNoted (export_event by (call_of ask.entry) reply.now) log.old.events log.new.events) }
     ensures err { OnErr result (log.new.events ≡ log.old.events) }
@@ -175,7 +175,7 @@ fn reply_on_names(alloc: Global, reply: &Reply) -> Result<TreeReply, Halted>
 
 /// The event of the reply to a begin.
 fn begin_event(by: Actor, ask: CallRef<'_>, text: Text, reply: &Reply) -> Option<Event>
-    requires { AreWords ask (CallTexts.Text text) }
+    requires { AreCallTexts ask (CallTexts.Text text) }
     ensures { result ≡ export_event by (call_of ask.entry) reply.now }
 {
     let CallRef::Begin { key, .. } = ask else {
@@ -196,7 +196,7 @@ fn begin_event(by: Actor, ask: CallRef<'_>, text: Text, reply: &Reply) -> Option
 
 /// The event of a reply that has no texts.
 fn plain_event(by: Actor, ask: CallRef<'_>, reply: &Reply) -> Option<Event>
-    requires { AreWords ask CallTexts.Nothing }
+    requires { AreCallTexts ask CallTexts.Nothing }
     ensures { result ≡ export_event by (call_of ask.entry) reply.now }
 {
     match ask {

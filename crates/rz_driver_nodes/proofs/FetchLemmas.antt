@@ -28,13 +28,13 @@ use Rattle.rz_node_model.specs.Afterwards.{after_fetch}
 use Rattle.rz_node_model.specs.NodeEvents.{fetch_event}
 use Rattle.rz_node_model.specs.Records.{found, listed}
 use Rattle.rz_node_model.specs.States.{NodeState, fresh}
-use Rattle.rz_scrub_report.specs.Stores.{IsRead}
+use Rattle.rz_scrub_report.specs.Stores.{AreBinsRead}
 use Rattle.rz_nodes.specs.declared.formatting.Server.{Server}
 use Rattle.rz_driver_nodes.specs.Fetches.{HaveRoom, IsFetch, GivesAt, GivesIn}
-use Rattle.rz_driver_nodes.specs.Meters.{AreMetered, Goes}
+use Rattle.rz_driver_nodes.specs.Meters.{AreMetered, GoesAsServer}
 use Rattle.rz_driver_nodes.specs.Asked.{IsOnlyAsked, AreOnlyAsked}
 use Rattle.rz_driver_nodes.specs.Images.{AreDisksImaged, fused_image}
-use Rattle.rz_driver_nodes.specs.Servers.{IsAt, IsCalled, IsNowhere, IsServer, numbers_of, state_in}
+use Rattle.rz_driver_nodes.specs.Servers.{IsServerAt, IsCalled, IsNowhere, IsServer, numbers_of, state_in}
 use Rattle.rz_nodes.specs.Formatted.{disks_of}
 use Rattle.rz_driver_nodes.proofs.AskedLaws.{all-themselves, one-itself}
 use Rattle.rz_driver_nodes.proofs.EventWords.{node-word, noted-others}
@@ -50,14 +50,14 @@ fence-after fetch.Down s = refl
 fence-after fetch.DiskFault s = refl
 
 -- what is read where a record is told
-pub read-of : (P : Held → List ℕ → List ℕ → Type 0) (given : FetchAnswer) (a b : List ℕ) → IfHeld given (λ told. P told a b) → IsRead P given a b
+pub read-of : (P : Held → List ℕ → List ℕ → Type 0) (given : FetchAnswer) (a b : List ℕ) → IfHeld given (λ told. P told a b) → AreBinsRead P given a b
 read-of P (fetch.Held told) a b h = h
 read-of P fetch.Nothing a b h = tt
 read-of P fetch.Lost a b h = tt
 read-of P fetch.Down a b h = tt
 read-of P fetch.DiskFault a b h = tt
 
-pub read-then : {P Q : Held → List ℕ → List ℕ → Type 0} → ((told : Held) (a b : List ℕ) → P told a b → Q told a b) → (given : FetchAnswer) (a b : List ℕ) → IsRead P given a b → IsRead Q given a b
+pub read-then : {P Q : Held → List ℕ → List ℕ → Type 0} → ((told : Held) (a b : List ℕ) → P told a b → Q told a b) → (given : FetchAnswer) (a b : List ℕ) → AreBinsRead P given a b → AreBinsRead Q given a b
 read-then to (fetch.Held told) a b h = to told a b h
 read-then to fetch.Nothing a b h = h
 read-then to fetch.Lost a b h = h
@@ -85,7 +85,7 @@ module _ {D : Type 0} where
   the-one x s is = cc
 
   -- what that node gives is what the node of its number gives
-  pub gives-in : (tells : Bool) (text : D → List ℕ) (xs : List (Server D)) (n place : ℕ) (s : Server D) (key : Key) → IsAt xs n place → slice_get xs place ≡ Some s
+  pub gives-in : (tells : Bool) (text : D → List ℕ) (xs : List (Server D)) (n place : ℕ) (s : Server D) (key : Key) → IsServerAt xs n place → slice_get xs place ≡ Some s
       → (told : Held) (a b : List ℕ) → GivesAt tells text s key told a b → GivesIn tells text xs n key told a b
   gives-in tells text xs n place s key at is told a b gives = (place, s, at, is, gives)
 
@@ -129,7 +129,7 @@ module _ {D : Type 0} where
   only-set text image (x ∷ xs) zero s s' is asked = (subst (λ (y : Server D). IsOnlyAsked text image y s') (sym (the-one x s is)) asked, all-themselves text image xs)
   only-set text image (x ∷ xs) (suc place) s s' is asked = (one-itself text image x, only-set text image xs place s s' is asked)
 
-  pub at-fetch : (key : Key) (stamp : ℕ) (given : FetchAnswer) (n place : ℕ) (xs : List (Server D)) (s s' : Server D) → IsAt xs n place → slice_get xs place ≡ Some s
+  pub at-fetch : (key : Key) (stamp : ℕ) (given : FetchAnswer) (n place : ℕ) (xs : List (Server D)) (s s' : Server D) → IsServerAt xs n place → slice_get xs place ≡ Some s
       → IsFetchAnswer (fetch_answer s.node.state key stamp) given → s'.node.state ≡ after_fetch given s.node.state → IsCalled s s' → IsFetch key stamp given n xs (set xs place s')
   at-fetch key stamp given n place xs s s' at is given_is after called =
       let here = state-at xs n place s at is in
@@ -140,8 +140,8 @@ module _ {D : Type 0} where
         one = inr (record { place = place; server = s; after = s'; at = at; is = is; servers = refl; called = called });
       }
 
-  pub at-metered : (meter : D → Meter) (event : ℕ → Event) (n place : ℕ) (numbers : List ℕ) (first : ℕ → ℕ) (xs : List (Server D)) (s s' : Server D) (h : List Event) → IsAt xs n place → slice_get xs place ≡ Some s
-      → s'.sid ≡ s.sid → Goes meter s s' (Some (event s.sid)) → AreMetered meter numbers xs h first → AreMetered meter numbers (set xs place s') (event n ∷ h) first
+  pub at-metered : (meter : D → Meter) (event : ℕ → Event) (n place : ℕ) (numbers : List ℕ) (first : ℕ → ℕ) (xs : List (Server D)) (s s' : Server D) (h : List Event) → IsServerAt xs n place → slice_get xs place ≡ Some s
+      → s'.sid ≡ s.sid → GoesAsServer meter s s' (Some (event s.sid)) → AreMetered meter numbers xs h first → AreMetered meter numbers (set xs place s') (event n ∷ h) first
   at-metered meter event n place numbers first xs s s' h at is sid goes met =
       subst (λ (k : ℕ). AreMetered meter numbers (set xs place s') (event k ∷ h) first) (state-at xs n place s at is).0
       (metered-step meter first numbers xs place s s' h (event s.sid ∷ h) is sid (goes h) met)
@@ -167,8 +167,8 @@ module _ {D : Type 0} where
   )
 
   -- where a node stands afterwards one stood before
-  before-at : (text : D → List ℕ) (image : D → List ℕ → Type 0) (xs ys : List (Server D)) (n p : ℕ) (t : Server D) → AreOnlyAsked text image xs ys → IsAt ys n p → slice_get ys p ≡ Some t
-      → (s : Server D) × IsAt xs n p × (slice_get xs p ≡ Some s) × IsOnlyAsked text image s t
+  before-at : (text : D → List ℕ) (image : D → List ℕ → Type 0) (xs ys : List (Server D)) (n p : ℕ) (t : Server D) → AreOnlyAsked text image xs ys → IsServerAt ys n p → slice_get ys p ≡ Some t
+      → (s : Server D) × IsServerAt xs n p × (slice_get xs p ≡ Some s) × IsOnlyAsked text image s t
   before-at text image xs [] n p t all at is = absurd at
   before-at text image [] (y ∷ ys) n p t all at is = absurd all
   before-at text image (x ∷ xs) (y ∷ ys) n zero t all at is = (x, sym all.0.called.sid ∙ at, refl, subst (λ (z : Server D). IsOnlyAsked text image x z) (the-one y t is) all.0)

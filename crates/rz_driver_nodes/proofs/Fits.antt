@@ -20,13 +20,13 @@ use Rattle.rz_client_model.specs.declared.reading.ReadStage.TheVariants.{Looking
 use Rattle.rz_client_model.specs.declared.reading.Fetches.{Fetches}
 use Rattle.rz_client_model.specs.Read.{after_answer, after_fetch, unless_enough, with_record, with_seen, reader_told, end_at, ask_at}
 use Rattle.rz_operation.specs.Machine.{Machine}
-use Rattle.rz_operation.specs.Answers.{IsAnswered}
+use Rattle.rz_operation.specs.Answers.{FitsIfEnough}
 use Rattle.rz_operation_model.specs.Ask.{Ask, Say, Saying, SayGot, SayLeft, ask_of, read_asks, is_part, rebuild_asks}
 use Rattle.rz_operation_model.specs.Rebuild.{RebuildState, Copying, Tally, after_read, base_told, rebuild_ask}
 use Rattle.rz_operation_model.specs.Steps.{Answered, told}
 use Rattle.rz_operation_model.specs.Work.{Work, Course, Calling, Dropping, Opening, Locking, Writing, Reading, Rebuilding, Ending, Over}
 use Rattle.rz_play.specs.Free.{MayFit}
-use Rattle.rz_driver_asks.specs.Parts.{IsTold}
+use Rattle.rz_driver_asks.specs.Parts.{IsMachineTold}
 
 -- What is not said over disks that tell their texts: that records fit no block.
 
@@ -120,7 +120,7 @@ told-fetch false a m new layout work good =
     work ∙ as-fit m.layout a m.work ((λ i. is_bad (ask_of (sym layout i) (sym work i))) ∙ good)
 
 -- what a machine was told of an answer
-pub told-so : (m : Machine) (a : NodeAnswer) (bins : List ℕ) (new : Machine) → IsAnswered m a bins new → (fits : Bool) × MayFit a fits × IsTold m new (Answered fits a)
+pub told-so : (m : Machine) (a : NodeAnswer) (bins : List ℕ) (new : Machine) → FitsIfEnough m a bins new → (fits : Bool) × MayFit a fits × IsMachineTold m new (Answered fits a)
 told-so m (answer.Fetch a) bins new given = (given.0, tt, record { layout = given.2.layout; work = given.2.work })
 told-so m (answer.Keep a) bins new given = (true, refl, record { layout = given.layout; work = given.work })
 told-so m (answer.Refill a) bins new given = (true, refl, record { layout = given.layout; work = given.work })
@@ -131,11 +131,11 @@ told-so m (answer.Start a) bins new given = (true, refl, record { layout = given
 told-so m (answer.Lose a) bins new given = (true, refl, record { layout = given.layout; work = given.work })
 told-so m (answer.Replace a) bins new given = (true, refl, record { layout = given.layout; work = given.work })
 
-told-alone : (m new : Machine) (a : NodeAnswer) (fits : Bool) → fits ≡ true → IsTold m new (Answered fits a) → IsTold m new (Answered true a)
-told-alone m new a fits is told = subst (λ (b : Bool). IsTold m new (Answered b a)) is told
+told-alone : (m new : Machine) (a : NodeAnswer) (fits : Bool) → fits ≡ true → IsMachineTold m new (Answered fits a) → IsMachineTold m new (Answered true a)
+told-alone m new a fits is told = subst (λ (b : Bool). IsMachineTold m new (Answered b a)) is told
 
 -- one that does not go on to say that they fit no block
-pub told-true : (m new : Machine) (a : NodeAnswer) (fits : Bool) → MayFit a fits → IsTold m new (Answered fits a) → is_bad (ask_of new.layout new.work) ≡ false → IsTold m new (Answered true a)
+pub told-true : (m new : Machine) (a : NodeAnswer) (fits : Bool) → MayFit a fits → IsMachineTold m new (Answered fits a) → is_bad (ask_of new.layout new.work) ≡ false → IsMachineTold m new (Answered true a)
 told-true m new (answer.Fetch a) fits may told good = record { layout = told.layout; work = told-fetch fits a m new told.layout told.work good }
 told-true m new (answer.Keep a) fits may told good = told-alone m new (answer.Keep a) fits may told
 told-true m new (answer.Refill a) fits may told good = told-alone m new (answer.Refill a) fits may told

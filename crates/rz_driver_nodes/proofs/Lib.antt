@@ -3,8 +3,8 @@ mod Asks
 pub mod Fits
 pub mod EventWords
 pub mod MeterLemmas
-pub mod PictureLemmas
-pub mod MessagePictures
-mod OrderPictures
+pub mod CoherenceLemmas
+pub mod MessageCoherence
+mod OrderCoherence
 pub mod AskedLaws
 pub mod FetchLemmas

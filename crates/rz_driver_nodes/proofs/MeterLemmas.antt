@@ -43,12 +43,12 @@ use Rattle.rz_node_laws.specs.Metered.{IsMetered, IsNoStart, IsFaultLaw, IsArmLa
 use Rattle.rz_disk.specs.UnderFuse.{UnderFuse, fused_meter}
 use Rattle.rz_nodes.specs.declared.formatting.Server.{Server}
 use Rattle.rz_driver_asks.specs.Parts.{IsNoted}
-use Rattle.rz_driver_nodes.specs.Servers.{IsAt, numbers_of}
+use Rattle.rz_driver_nodes.specs.Servers.{IsServerAt, numbers_of}
 use Rattle.mj_angles.specs.declared.layout.Layout.{Layout}
 use Rattle.rz_events.specs.declared.files.NodeSpec.{NodeSpec}
 use Rattle.rz_events.specs.Volume.{Volume, IsVolume, nodes_of}
 use Rattle.rz_nodes.specs.Formatted.{AreFormatted, disks_of}
-use Rattle.rz_driver_nodes.specs.Meters.{IsExact, GoesWith, CountsWith, OfEach, AreMetered, AreCounted, AreDisksCounted, CarriesCounts, GoesOn, Goes, faults_at, faults_in}
+use Rattle.rz_driver_nodes.specs.Meters.{IsExact, GoesWith, CountsWith, OfEach, AreMetered, AreCounted, AreDisksCounted, CarriesCounts, OneNodeGoesOn, GoesAsServer, faults_at, faults_in}
 use Rattle.rz_driver_nodes.proofs.EventWords.{word-stays, word-grows, word-apart, node-word, export-quiet, said-quiet, noted-own, noted-others}
 
 -- Along the row.
@@ -60,7 +60,7 @@ module _ {D : Type 0} where
   the-one : (x s : Server D) → Some x ≡ Some s → x ≡ s
   the-one x s is = cc
 
-  pub sid-at : (xs : List (Server D)) (n i : ℕ) (s : Server D) → IsAt xs n i → slice_get xs i ≡ Some s → s.sid ≡ n
+  pub sid-at : (xs : List (Server D)) (n i : ℕ) (s : Server D) → IsServerAt xs n i → slice_get xs i ≡ Some s → s.sid ≡ n
   sid-at [] n i s at is = absurd at
   sid-at (x ∷ xs) n zero s at is = ap (λ (y : Server D). y.sid) (sym (the-one x s is)) ∙ at
   sid-at (x ∷ xs) n (suc i) s at is = sid-at xs n i s at.1 is
@@ -156,7 +156,7 @@ module _ {D : Type 0} (meter : D → Meter) where
   -- a node that answered any call but a start goes on
   pub call-goes : IsFaultLaw → (by : Actor) (n k cells : ℕ) (question : NodeAsk) (given : NodeAnswer) (node node' : NodeView D) → calls.IsNoStart question
       → IsNodeAnswer cells node.state question given → node'.state ≡ after_answer question given node.state → Counts k given (meter node.disk) (meter node'.disk)
-      → (h : List Event) → GoesOn meter n node node' h (noted (node_event by n question given) h)
+      → (h : List Event) → OneNodeGoesOn meter n node node' h (noted (node_event by n question given) h)
   call-goes law by n k cells question given node node' no_start is after counts h =
       let own = node-word by n question given in
       let rose = counts-last k cells question given node.state (meter node.disk) (meter node'.disk) (no-start question no_start) is counts in
@@ -173,7 +173,7 @@ module _ {D : Type 0} (meter : D → Meter) where
       }
 
   -- events of no node after that change nothing
-  pub goes-then : (n : ℕ) (node node' : NodeView D) (h h' h2 : List Event) → GoesOn meter n node node' h h' → ((m : ℕ) → of_word (Node m) h2 ≡ of_word (Node m) h') → GoesOn meter n node node' h h2
+  pub goes-then : (n : ℕ) (node node' : NodeView D) (h h' h2 : List Event) → OneNodeGoesOn meter n node node' h h' → ((m : ℕ) → of_word (Node m) h2 ≡ of_word (Node m) h') → OneNodeGoesOn meter n node node' h h2
   goes-then n node node' h h' h2 goes stay = record {
     others = λ m apart. stay m ∙ goes.others m apart;
     goes = λ first was. subst (λ (w : List Event). GoesWith meter first w node') (sym (stay n)) (goes.goes first was);
@@ -202,7 +202,7 @@ module _ {D : Type 0} (meter : D → Meter) where
 
   module _ (first : ℕ → ℕ) (numbers : List ℕ) where
     -- the row, where one node went on
-    pub metered-step : (row : List (Server D)) (place : ℕ) (s s' : Server D) (h h' : List Event) → slice_get row place ≡ Some s → s'.sid ≡ s.sid → GoesOn meter s.sid s.node s'.node h h'
+    pub metered-step : (row : List (Server D)) (place : ℕ) (s s' : Server D) (h h' : List Event) → slice_get row place ≡ Some s → s'.sid ≡ s.sid → OneNodeGoesOn meter s.sid s.node s'.node h h'
         → AreMetered meter numbers row h first → AreMetered meter numbers (slice_set row place s') h' first
     metered-step row place s s' h h' at same goes met = record {
       named = numbers-set row place s s' at same ∙ met.named;
@@ -235,7 +235,7 @@ module _ {D : Type 0} (meter : D → Meter) where
 
     -- A line's order to the node at a place.
 
-    pub order-held : (row : List (Server D)) (place : ℕ) (s s' : Server D) (event : Option Event) (h h' : List Event) → slice_get row place ≡ Some s → s'.sid ≡ s.sid → Goes meter s s' event
+    pub order-held : (row : List (Server D)) (place : ℕ) (s s' : Server D) (event : Option Event) (h h' : List Event) → slice_get row place ≡ Some s → s'.sid ≡ s.sid → GoesAsServer meter s s' event
         → h' ≡ noted event h → AreMetered meter numbers row h first → AreMetered meter numbers (slice_set row place s') h' first
     order-held row place s s' event h h' at same goes log_is met =
         subst (λ (k : List Event). AreMetered meter numbers (slice_set row place s') k first) (sym log_is) (metered-step row place s s' h (noted event h) at same (goes h) met)
@@ -260,7 +260,7 @@ armed-there false passes old new has is = cc
 
 module _ {D : Type 0} (meter : D → Meter) where
   pub arm-goes : IsArmLaw → (fuse : Bool) → IsTrue fuse → (n k pick : ℕ) (node node' : NodeView D) → node'.state.phase ≡ node.state.phase
-      → meter node'.disk ≡ (if fuse then armed (Some k) (meter node.disk) else meter node.disk) → (h : List Event) → GoesOn meter n node node' h (e.Armed n k pick ∷ h)
+      → meter node'.disk ≡ (if fuse then armed (Some k) (meter node.disk) else meter node.disk) → (h : List Event) → OneNodeGoesOn meter n node node' h (e.Armed n k pick ∷ h)
   arm-goes law fuse has n k pick node node' phase is h =
       let now = armed-there fuse (Some k) (meter node.disk) (meter node'.disk) has is in
       let own = ap (λ (m : Meter). m.own) now in
@@ -279,7 +279,7 @@ module _ {D : Type 0} (meter : D → Meter) where
 
   -- a node that is down was disarmed, and started or refused its disk
   down-goes : IsStartLaw → (n k : ℕ) (given : StartAnswer) (node node' : NodeView D) (mid : Meter) → mid ≡ armed None (meter node.disk) → IsOpening given → Opens k given mid (meter node'.disk)
-      → (meter node.disk).own ≤ (meter node'.disk).own → node'.state.phase ≡ (after_start given node.state).phase → (h : List Event) → GoesOn meter n node node' h (noted (start_event n given) h)
+      → (meter node.disk).own ≤ (meter node'.disk).own → node'.state.phase ≡ (after_start given node.state).phase → (h : List Event) → OneNodeGoesOn meter n node node' h (noted (start_event n given) h)
   down-goes law n k given node node' mid disarmed opening opens rose phase h =
       let own = node-word Admin n ask.Start (answer.Start given) in
       record {
@@ -296,7 +296,7 @@ module _ {D : Type 0} (meter : D → Meter) where
       }
 
   -- one that was not down stays as it was
-  still-goes : (n : ℕ) (node node' : NodeView D) → meter node'.disk ≡ meter node.disk → node'.state ≡ node.state → (h : List Event) → GoesOn meter n node node' h h
+  still-goes : (n : ℕ) (node node' : NodeView D) → meter node'.disk ≡ meter node.disk → node'.state ≡ node.state → (h : List Event) → OneNodeGoesOn meter n node node' h h
   still-goes n node node' is state h = record {
     others = λ m apart. refl;
     goes = λ first was. (
@@ -320,7 +320,7 @@ module _ {D : Type 0} (meter : D → Meter) where
   pub start-down : IsStartLaw → (n k : ℕ) (given : StartAnswer) (node node' : NodeView D) (mid : Meter) → node.state.phase ≡ Down → IsStartAnswer node.state given → (given ≡ start.NoMemory → ⊥)
       → mid ≡ armed None (meter node.disk) → Opens k given mid (meter node'.disk)
       → IfStarted given (node'.state ≡ opened node.state.losses node'.state.fence node'.state.held) → UnlessStarted given (node'.state ≡ node.state)
-      → (h : List Event) → GoesOn meter n node node' h (noted (start_event n given) h)
+      → (h : List Event) → OneNodeGoesOn meter n node node' h (noted (start_event n given) h)
   start-down law n k start.NotDown node node' mid down is other disarmed opens started unstarted h = absurd (is down)
   start-down law n k start.NoMemory node node' mid down is other disarmed opens started unstarted h = absurd (other refl)
   start-down law n k (start.Started true) node node' mid down is other disarmed opens started unstarted h =
@@ -334,7 +334,7 @@ module _ {D : Type 0} (meter : D → Meter) where
       down-goes law n k (start.Unopened cause) node node' mid disarmed tt opens (start-lasts k (start.Unopened cause) node node' mid own opens) (ap (λ (t : NodeState). t.phase) unstarted) h
 
   pub start-still : (n k : ℕ) (given : StartAnswer) (node node' : NodeView D) → (node.state.phase ≡ Down → ⊥) → IsStartAnswer node.state given → Opens k given (meter node.disk) (meter node'.disk)
-      → UnlessStarted given (node'.state ≡ node.state) → (h : List Event) → GoesOn meter n node node' h (noted (start_event n given) h)
+      → UnlessStarted given (node'.state ≡ node.state) → (h : List Event) → OneNodeGoesOn meter n node node' h (noted (start_event n given) h)
   start-still n k start.NotDown node node' other is opens unstarted h = still-goes n node node' opens unstarted h
   start-still n k start.NoMemory node node' other is opens unstarted h = absurd (other is)
   start-still n k (start.Started took) node node' other is opens unstarted h = absurd (other is.0)
@@ -346,21 +346,21 @@ pub call-lasts : (k cells : ℕ) (question : NodeAsk) (given : NodeAnswer) (s : 
 call-lasts k cells question given s old new ok is counts = counts-last k cells question given s old new (no-start question ok) is counts
 
 module _ {D : Type 0} (meter : D → Meter) (n : ℕ) (node node' : NodeView D) (h h' : List Event) where
-  pub noted-goes : (o model : Option Event) → o ≡ model → IsNoted o h h' → GoesOn meter n node node' h (noted model h) → GoesOn meter n node node' h h'
+  pub noted-goes : (o model : Option Event) → o ≡ model → IsNoted o h h' → OneNodeGoesOn meter n node node' h (noted model h) → OneNodeGoesOn meter n node node' h h'
   noted-goes o model same (x, is, log_is) goes =
-      let at = subst (λ (p : Option Event). GoesOn meter n node node' h (noted p h)) (sym same ∙ is) goes in
-      subst (λ (k : List Event). GoesOn meter n node node' h k) (sym log_is) at
+      let at = subst (λ (p : Option Event). OneNodeGoesOn meter n node node' h (noted p h)) (sym same ∙ is) goes in
+      subst (λ (k : List Event). OneNodeGoesOn meter n node node' h k) (sym log_is) at
 
-  pub missed-goes : (x : Event) (by : Actor) (model : Option Event) → model ≡ Some x → h' ≡ e.Missed by n true ∷ x ∷ h → GoesOn meter n node node' h (noted model h) → GoesOn meter n node node' h h'
+  pub missed-goes : (x : Event) (by : Actor) (model : Option Event) → model ≡ Some x → h' ≡ e.Missed by n true ∷ x ∷ h → OneNodeGoesOn meter n node node' h (noted model h) → OneNodeGoesOn meter n node node' h h'
   missed-goes x by model is log_is goes =
-      let at = subst (λ (p : Option Event). GoesOn meter n node node' h (noted p h)) is goes in
+      let at = subst (λ (p : Option Event). OneNodeGoesOn meter n node node' h (noted p h)) is goes in
       let more = goes-then meter n node node' h (x ∷ h) (e.Missed by n true ∷ x ∷ h) at (λ m. word-stays m (e.Missed by n true) (x ∷ h) refl) in
-      subst (λ (k : List Event). GoesOn meter n node node' h k) (sym log_is) more
+      subst (λ (k : List Event). OneNodeGoesOn meter n node node' h k) (sym log_is) more
 
 -- the node did not hear of it
-pub unheard-goes : {D : Type 0} (meter : D → Meter) (n : ℕ) (node : NodeView D) (by : Actor) (to : ℕ) (h h' : List Event) → h' ≡ e.Missed by to false ∷ h → GoesOn meter n node node h h'
+pub unheard-goes : {D : Type 0} (meter : D → Meter) (n : ℕ) (node : NodeView D) (by : Actor) (to : ℕ) (h h' : List Event) → h' ≡ e.Missed by to false ∷ h → OneNodeGoesOn meter n node node h h'
 unheard-goes meter n node by to h h' log_is =
-    subst (λ (k : List Event). GoesOn meter n node node h k) (sym log_is)
+    subst (λ (k : List Event). OneNodeGoesOn meter n node node h k) (sym log_is)
     (goes-then meter n node node h h (e.Missed by to false ∷ h) (record { others = λ m apart. refl; goes = λ first was. was }) (λ m. word-stays m (e.Missed by to false) h refl))
 
 -- what the export replies, and what an actor says, leaves the words of all nodes

@@ -3,7 +3,7 @@ use Rattle.std.proofs.Common.{ℕ, zero, suc, ◌≡◌, ◌≢◌, ◌+◌, ◌
 use Rattle.std.specs.Prelude.{slice_get, ◌==◌}
 use Rattle.std.proofs.lemmas.Bool.{cases_lt, eqb-true}
 use Rattle.rz_nodes.specs.declared.formatting.Server.{Server}
-use Rattle.rz_driver_nodes.specs.Servers.{IsAt, IsNowhere, state_in}
+use Rattle.rz_driver_nodes.specs.Servers.{IsServerAt, IsNowhere, state_in}
 use Rattle.std.specs.List.{AllByRecursion}
 use Rattle.rz_node_model.specs.States.{NodeState}
 
@@ -31,7 +31,7 @@ module _ {D : Type 0} where
 
   -- the first one with a number that none before it has
   pub first-at : (xs : List (Server D)) (n i : ℕ) (s : Server D) → slice_get xs i ≡ Some s → s.sid ≡ n
-      → ((k : ℕ) (x : Server D) → k < i → slice_get xs k ≡ Some x → x.sid ≢ n) → IsAt xs n i
+      → ((k : ℕ) (x : Server D) → k < i → slice_get xs k ≡ Some x → x.sid ≢ n) → IsServerAt xs n i
   first-at [] n i s is same others = absurd (cc)
   first-at (x ∷ xs) n zero s is same others = ap (λ (y : Server D). y.sid) (the-one x s is) ∙ same
   first-at (x ∷ xs) n (suc i) s is same others = (others 0 x (omega arith) refl, first-at xs n i s is same (λ k y low at. others (suc k) y (omega arith) at))
@@ -52,7 +52,7 @@ module _ {D : Type 0} where
   none-at [] n others = tt
   none-at (x ∷ xs) n others = (others 0 x (omega arith) refl, none-at xs n (λ k y low at. others (suc k) y (omega (arith, low)) at))
 
-  pub at-within : (xs : List (Server D)) (n i : ℕ) → IsAt xs n i → i < length xs
+  pub at-within : (xs : List (Server D)) (n i : ℕ) → IsServerAt xs n i → i < length xs
   at-within [] n i at = absurd at
   at-within (x ∷ xs) n zero at = omega arith
   at-within (x ∷ xs) n (suc i) at = let low = at-within xs n i at.1 in omega (arith, low)
@@ -78,7 +78,7 @@ swap false false x s r apart = refl
 
 module _ {D : Type 0} where
   -- the node at the place of a number
-  pub state-at : (ss : List (Server D)) (n i : ℕ) (s : Server D) → IsAt ss n i → slice_get ss i ≡ Some s → (s.sid ≡ n) × (state_in ss n ≡ s.node.state)
+  pub state-at : (ss : List (Server D)) (n i : ℕ) (s : Server D) → IsServerAt ss n i → slice_get ss i ≡ Some s → (s.sid ≡ n) × (state_in ss n ≡ s.node.state)
   state-at [] n i s at is = absurd at
   state-at (x ∷ ss) n zero s at is =
       let same = the-one x s is in (
@@ -90,7 +90,7 @@ module _ {D : Type 0} where
       (rest.0, ap (λ b. cond b x.node.state (state_in ss n)) (differ n x.sid (λ same. at.0 (sym same))) ∙ rest.1)
 
   -- and after it was changed
-  pub state-set : (ss : List (Server D)) (n i : ℕ) (s : Server D) → IsAt ss n i → s.sid ≡ n → (m : ℕ) → state_in (set ss i s) m ≡ cond (m == n) s.node.state (state_in ss m)
+  pub state-set : (ss : List (Server D)) (n i : ℕ) (s : Server D) → IsServerAt ss n i → s.sid ≡ n → (m : ℕ) → state_in (set ss i s) m ≡ cond (m == n) s.node.state (state_in ss m)
   state-set [] n i s at sid m = absurd at
   state-set (x ∷ ss) n zero s at sid m =
       ap (λ (k : ℕ). cond (m == k) s.node.state (state_in ss m)) sid

@@ -12,9 +12,9 @@ use Rattle.rz_events.specs.declared.events.Event.TheVariants as e
 use Rattle.rz_node_model.specs.Answers.{IsNodeAnswer}
 use Rattle.rz_node_model.specs.Afterwards.{after_answer}
 use Rattle.rz_node_model.specs.NodeEvents.{node_event}
-use Rattle.rz_play.specs.Lines.{IsStartedAs, IsTold, noted}
+use Rattle.rz_play.specs.Lines.{IsStartedAs, IsAnswerInPlay, noted}
 use Rattle.rz_nodes.specs.declared.formatting.Server.{Server}
-use Rattle.rz_driver_nodes.specs.Servers.{IsAt, IsCalled}
+use Rattle.rz_driver_nodes.specs.Servers.{IsServerAt, IsCalled}
 
 -- a node is told to stop, or to lose its disk
 abbrev pub StopsOrLoses : NodeAsk → Type 0
@@ -23,10 +23,10 @@ StopsOrLoses ask.Lose = Unit {0}
 StopsOrLoses question = ⊥
 
 -- a node answered the administrator
-pub record IsOrder {D : Type 0} (question : NodeAsk) (s s' : Server D) (event : Option Event) : Type 0 where
+pub record IsOrderAnswered {D : Type 0} (question : NodeAsk) (s s' : Server D) (event : Option Event) : Type 0 where
   pub given : NodeAnswer
   pub given_is : IsNodeAnswer s.node.geometry.cells s.node.state question given
-  pub told : IsTold given
+  pub told : IsAnswerInPlay given
   pub after : s'.node.state ≡ after_answer question given s.node.state
   pub event_is : event ≡ node_event Admin s.sid question given
   pub called : IsCalled s s'
@@ -41,22 +41,22 @@ pub record IsFreeOrder {D : Type 0} (s s' : Server D) (event : Option Event) : T
   pub called : IsCalled s s'
 
 -- its disk was armed
-pub record IsArmed {D : Type 0} (pick : ℕ) (s s' : Server D) : Type 0 where
+pub record IsDiskArmed {D : Type 0} (pick : ℕ) (s s' : Server D) : Type 0 where
   pub sid : s'.sid ≡ s.sid
   pub geometry : s'.node.geometry ≡ s.node.geometry
   pub state : s'.node.state ≡ s.node.state
   pub pick_is : s'.pick ≡ pick
 
 -- the node of this number answered, and its event was noted
-pub record IsOrdered {D : Type 0} (question : NodeAsk) (n : ℕ) (old new : List (Server D)) (log log' : List Event) : Type 0 where
+pub record IsOrderNoted {D : Type 0} (question : NodeAsk) (n : ℕ) (old new : List (Server D)) (log log' : List Event) : Type 0 where
   pub place : ℕ
   pub server : Server D
   pub after : Server D
   pub event : Option Event
-  pub at : IsAt old n place
+  pub at : IsServerAt old n place
   pub is : slice_get old place ≡ Some server
   pub servers : new ≡ slice_set old place after
-  pub order : IsOrder question server after event
+  pub order : IsOrderAnswered question server after event
   pub log_is : log' ≡ noted event log
 
 -- the node of this number was started, and its event was noted
@@ -65,7 +65,7 @@ pub record IsStarted {D : Type 0} (n : ℕ) (old new : List (Server D)) (log log
   pub server : Server D
   pub after : Server D
   pub event : Option Event
-  pub at : IsAt old n place
+  pub at : IsServerAt old n place
   pub is : slice_get old place ≡ Some server
   pub servers : new ≡ slice_set old place after
   pub order : IsFreeOrder server after event
@@ -76,7 +76,7 @@ pub record IsCalledAt {D : Type 0} (n : ℕ) (old new : List (Server D)) : Type 
   pub place : ℕ
   pub server : Server D
   pub after : Server D
-  pub at : IsAt old n place
+  pub at : IsServerAt old n place
   pub is : slice_get old place ≡ Some server
   pub servers : new ≡ slice_set old place after
   pub called : IsCalled server after
@@ -86,7 +86,7 @@ pub record IsCrashedAt {D : Type 0} (picks : D → ℕ → List ℕ → Type 0) 
   pub place : ℕ
   pub server : Server D
   pub after : Server D
-  pub at : IsAt old n place
+  pub at : IsServerAt old n place
   pub is : slice_get old place ≡ Some server
   pub servers : new ≡ slice_set old place after
   pub crashed : server.node.state.phase ≡ Down → picks server.node.disk server.pick (text after.node.disk)
@@ -96,8 +96,8 @@ pub record IsArming {D : Type 0} (passes pick n : ℕ) (old new : List (Server D
   pub place : ℕ
   pub server : Server D
   pub after : Server D
-  pub at : IsAt old n place
+  pub at : IsServerAt old n place
   pub is : slice_get old place ≡ Some server
   pub servers : new ≡ slice_set old place after
-  pub armed : IsArmed pick server after
+  pub armed : IsDiskArmed pick server after
   pub log_is : log' ≡ e.Armed n passes pick ∷ log

@@ -10,7 +10,7 @@ use Rattle.rz_node_model.specs.Answers.{IsFetchAnswer, fetch_answer}
 use Rattle.rz_node_model.specs.Afterwards.{after_fetch}
 use Rattle.rz_nodes.specs.declared.formatting.Server.{Server}
 use Rattle.rz_driver_nodes.specs.Administration.{IsCalledAt}
-use Rattle.rz_driver_nodes.specs.Servers.{state_in, IsAt}
+use Rattle.rz_driver_nodes.specs.Servers.{state_in, IsServerAt}
 
 -- there is room for the bins of the records of each node
 abbrev pub HaveRoom : {D : Type 0} → ℕ → List (Server D) → Type 0
@@ -30,4 +30,4 @@ GivesAt tells text s key told before room = IsTrue tells → IsFetchedFromDisk s
 -- a node has this number, and so it is of the first
 abbrev pub GivesIn : {D : Type 0} → Bool → (D → List ℕ) → List (Server D) → ℕ → Key → Held → List ℕ → List ℕ → Type 0
 GivesIn {D = D} tells text servers n key told before room =
-    (place : ℕ) × (s : Server D) × IsAt servers n place × (slice_get servers place ≡ Some s) × GivesAt tells text s key told before room
+    (place : ℕ) × (s : Server D) × IsServerAt servers n place × (slice_get servers place ≡ Some s) × GivesAt tells text s key told before room

@@ -32,14 +32,14 @@ AreImaged {D = D} image v f servers = AllByRecursion (λ (s : Server D). HasImag
 
 -- What a message to node n keeps, behind the log of all earlier runs.
 
-abbrev pub KeepsNode : {D : Type 0} → (D → List ℕ → Type 0) → Actor → ℕ → Machine → Machine → NodeView D → NodeView D → List Event → List Event → Type 0
-KeepsNode image by n m m' node node' h h' =
+abbrev pub NodeStaysCoherent : {D : Type 0} → (D → List ℕ → Type 0) → Actor → ℕ → Machine → Machine → NodeView D → NodeView D → List Event → List Event → Type 0
+NodeStaysCoherent image by n m m' node node' h h' =
     (v : Volume) (old : List Event) → IsTrueActor v (facts (h ++ old)) by m → HasImages image v (facts (h ++ old)) n node
     → HasInHand v (facts (h' ++ old)) m' × HasImages image v (facts (h' ++ old)) n node'
 
 -- where it ends for want of memory, the node's state is as before
-abbrev pub SparesNode : {D : Type 0} → (D → List ℕ → Type 0) → Actor → ℕ → Machine → NodeView D → NodeView D → List Event → Type 0
-SparesNode image by n m node node' h =
+abbrev pub NodeUnchanged : {D : Type 0} → (D → List ℕ → Type 0) → Actor → ℕ → Machine → NodeView D → NodeView D → List Event → Type 0
+NodeUnchanged image by n m node node' h =
     (v : Volume) (old : List Event) → IsTrueActor v (facts (h ++ old)) by m → HasImages image v (facts (h ++ old)) n node
     → HasImages image v (facts (h ++ old)) n node' × (node'.state ≡ node.state)
 
@@ -49,16 +49,16 @@ KeepsImages image s s' = (v : Volume) (f : Facts) → HasImages image v f s.sid 
 
 -- And of all nodes, with the log, behind that of all earlier runs.
 
-abbrev pub KeepsRow : {D : Type 0} → (D → List ℕ → Type 0) → List (Server D) → List Event → List (Server D) → List Event → Type 0
-KeepsRow image xs h ys h' = (v : Volume) (old : List Event) → AreImaged image v (facts (h ++ old)) xs → AreImaged image v (facts (h' ++ old)) ys
+abbrev pub NodesStayCoherent : {D : Type 0} → (D → List ℕ → Type 0) → List (Server D) → List Event → List (Server D) → List Event → Type 0
+NodesStayCoherent image xs h ys h' = (v : Volume) (old : List Event) → AreImaged image v (facts (h ++ old)) xs → AreImaged image v (facts (h' ++ old)) ys
 
-abbrev pub SparesRow : {D : Type 0} → (D → List ℕ → Type 0) → List (Server D) → List Event → List (Server D) → Type 0
-SparesRow image xs h ys = (v : Volume) (old : List Event) → AreImaged image v (facts (h ++ old)) xs → AreImaged image v (facts (h ++ old)) ys × (state_in ys ≡ state_in xs)
+abbrev pub NodesUnchanged : {D : Type 0} → (D → List ℕ → Type 0) → List (Server D) → List Event → List (Server D) → Type 0
+NodesUnchanged image xs h ys = (v : Volume) (old : List Event) → AreImaged image v (facts (h ++ old)) xs → AreImaged image v (facts (h ++ old)) ys × (state_in ys ≡ state_in xs)
 
 -- Where a play ended.
 
 -- the node has the state that its word of the log gives, and its disk the images of that
-pub record IsRight {D : Type 0} (image : D → List ℕ → Type 0) (v : Volume) (h : List Event) (s : Server D) : Type 0 where
+pub record IsServerRight {D : Type 0} (image : D → List ℕ → Type 0) (v : Volume) (h : List Event) (s : Server D) : Type 0 where
   pub images : HasImages image v (facts h) s.sid s.node
   pub state : IsNode (facts h) (of_word (Node s.sid) h) s.node.state
 

@@ -48,13 +48,13 @@ pub record AreCounted {D : Type 0} (meter : D → Meter) (numbers : List ℕ) (s
   pub each : OfEach (CountsWith meter) first 0 servers h
 
 -- A call of node n: the words of the others stay, and its own goes with its disk still.
-pub record GoesOn {D : Type 0} (meter : D → Meter) (n : ℕ) (node node' : NodeView D) (h h' : List Event) : Type 0 where
+pub record OneNodeGoesOn {D : Type 0} (meter : D → Meter) (n : ℕ) (node node' : NodeView D) (h h' : List Event) : Type 0 where
   pub others : (m : ℕ) → m ≢ n → of_word (Node m) h' ≡ of_word (Node m) h
   pub goes : (first : ℕ) → GoesWith meter first (of_word (Node n) h) node → GoesWith meter first (of_word (Node n) h') node'
 
 -- the server went on, and this event of it, if there is one, is to be noted
-abbrev pub Goes : {D : Type 0} → (D → Meter) → Server D → Server D → Option Event → Type 0
-Goes meter s s' event = (h : List Event) → GoesOn meter s.sid s.node s'.node h (noted event h)
+abbrev pub GoesAsServer : {D : Type 0} → (D → Meter) → Server D → Server D → Option Event → Type 0
+GoesAsServer meter s s' event = (h : List Event) → OneNodeGoesOn meter s.sid s.node s'.node h (noted event h)
 
 -- the faults of the disk at a place, or 0 where there is none
 abbrev pub faults_in : {D : Type 0} → (D → Meter) → Option D → ℕ

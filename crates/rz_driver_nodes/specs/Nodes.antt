@@ -14,12 +14,12 @@ use Rattle.rz_node_model.specs.Answers.{IsNodeAnswer}
 use Rattle.rz_node_model.specs.Afterwards.{after_answer}
 use Rattle.rz_node_model.specs.NodeEvents.{node_event}
 use Rattle.rz_client_model.specs.Read.{IsFetched}
-use Rattle.rz_operation.specs.Answers.{Goes}
+use Rattle.rz_operation.specs.Answers.{IsWorkAfter}
 use Rattle.rz_operation.specs.Machine.{Machine}
 use Rattle.rz_operation_model.specs.Ask.{AskNode, ask_of}
 use Rattle.rz_operation_model.specs.Steps.{Answered, Missed}
 use Rattle.rz_play.specs.Free.{MayFit}
-use Rattle.rz_driver_asks.specs.Parts.{IsTold, IsNoted}
+use Rattle.rz_driver_asks.specs.Parts.{IsMachineTold, IsNoted}
 
 -- the machine asks this of the node
 abbrev pub IsAsked : Machine → ℕ → NodeAsk → Type 0
@@ -36,29 +36,29 @@ IsFetchOf layout (answer.Fetch a) = IsFetched layout a
 IsFetchOf layout given = Unit {0}
 
 -- a node answered, in the state that it had, and has the state after it
-pub record IsServed (cells : ℕ) (question : NodeAsk) (given : NodeAnswer) (s s' : NodeState) : Type 0 where
+pub record IsNodeServed (cells : ℕ) (question : NodeAsk) (given : NodeAnswer) (s s' : NodeState) : Type 0 where
   pub given_is : IsNodeAnswer cells s question given
   pub after : s' ≡ after_answer question given s
 
 -- the message came through; the records that came may fit no block
 pub record IsThroughPart (by : Actor) (n cells : ℕ) (question : NodeAsk) (s s' : NodeState) (old new : Machine) (log log' : List Event) : Type 0 where
   pub given : NodeAnswer
-  pub served : IsServed cells question given s s'
+  pub served : IsNodeServed cells question given s s'
   pub noted : IsNoted (node_event by n question given) log log'
   pub fits : Bool
   pub may_fit : MayFit given fits
-  pub goes : IsTold old new (Answered fits given)
+  pub goes : IsMachineTold old new (Answered fits given)
 
 -- its answer was lost
 pub record IsReplyLostPart (by : Actor) (n cells : ℕ) (question : NodeAsk) (s s' : NodeState) (old new : Machine) (log log' : List Event) : Type 0 where
   pub given : NodeAnswer
-  pub served : IsServed cells question given s s'
+  pub served : IsNodeServed cells question given s s'
   pub event : Event
   pub event_is : node_event by n question given ≡ Some event
   pub noted : log' ≡ e.Missed by n true ∷ event ∷ log
-  pub goes : Goes old old.pairs Missed new
+  pub goes : IsWorkAfter old old.pairs Missed new
 
 -- it was lost itself
 pub record IsRequestLostPart (by : Actor) (n : ℕ) (old new : Machine) (log log' : List Event) : Type 0 where
   pub noted : log' ≡ e.Missed by n false ∷ log
-  pub goes : Goes old old.pairs Missed new
+  pub goes : IsWorkAfter old old.pairs Missed new

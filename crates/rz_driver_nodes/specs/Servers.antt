@@ -11,10 +11,10 @@ state_in [] n = fresh
 state_in (s ∷ more) n = cond (n == s.sid) s.node.state (state_in more n)
 
 -- the first node with this number stands at this place
-abbrev pub IsAt : {D : Type 0} → List (Server D) → ℕ → ℕ → Type 0
-IsAt [] n i = ⊥
-IsAt (s ∷ more) n zero = s.sid ≡ n
-IsAt (s ∷ more) n (suc i) = (s.sid ≢ n) × IsAt more n i
+abbrev pub IsServerAt : {D : Type 0} → List (Server D) → ℕ → ℕ → Type 0
+IsServerAt [] n i = ⊥
+IsServerAt (s ∷ more) n zero = s.sid ≡ n
+IsServerAt (s ∷ more) n (suc i) = (s.sid ≢ n) × IsServerAt more n i
 
 -- no node has this number
 abbrev pub IsNowhere : {D : Type 0} → List (Server D) → ℕ → Type 0
@@ -22,9 +22,9 @@ IsNowhere [] n = Unit {0}
 IsNowhere (s ∷ more) n = (s.sid ≢ n) × IsNowhere more n
 
 -- where the first node with the number stands, if one has it
-abbrev pub IsPlace : {D : Type 0} → List (Server D) → ℕ → Option ℕ → Type 0
-IsPlace servers n None = IsNowhere servers n
-IsPlace servers n (Some i) = IsAt servers n i
+abbrev pub IsServerPlace : {D : Type 0} → List (Server D) → ℕ → Option ℕ → Type 0
+IsServerPlace servers n None = IsNowhere servers n
+IsServerPlace servers n (Some i) = IsServerAt servers n i
 
 -- the numbers of the nodes, in order
 abbrev pub numbers_of : {D : Type 0} → List (Server D) → List ℕ

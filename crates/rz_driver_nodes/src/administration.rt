@@ -3,10 +3,10 @@ ghost use Rattle.std.specs.Prelude.{◌≡◌, ◌⊎◌, ◌<◌, ◌≤◌, �
 ghost use Rattle.rz_events.specs.declared.nodes.NodeAsk.TheVariants as ask;
 ghost use Rattle.rz_events.specs.declared.events.Event.TheVariants as e;
 ghost use Rattle.rz_play.specs.Lines.{noted};
-ghost use Rattle.rz_driver_nodes.specs.Images.{KeepsImages, KeepsRow, SparesRow};
-ghost use Rattle.rz_driver_nodes.specs.Meters.{AreMetered, AreCounted, CarriesCounts, Goes};
+ghost use Rattle.rz_driver_nodes.specs.Images.{KeepsImages, NodesStayCoherent, NodesUnchanged};
+ghost use Rattle.rz_driver_nodes.specs.Meters.{AreMetered, AreCounted, CarriesCounts, GoesAsServer};
 ghost use Rattle.rz_driver_nodes.specs.Servers.{IsCalled};
-ghost use Rattle.rz_driver_nodes.specs.Administration.{StopsOrLoses, IsOrdered, IsOrder, IsFreeOrder, IsStarted, IsArmed, IsArming, IsCalledAt, IsCrashedAt};
+ghost use Rattle.rz_driver_nodes.specs.Administration.{StopsOrLoses, IsOrderNoted, IsOrderAnswered, IsFreeOrder, IsStarted, IsDiskArmed, IsArming, IsCalledAt, IsCrashedAt};
 
 use crate::server::find;
 use rz_disk::Disk;
@@ -25,12 +25,12 @@ pub fn order_node<D: Disk>(
     ask: &NodeAsk,
 ) -> Result<(), Halted>
     requires ask { StopsOrLoses ask.now }
-    ensures ok { OnOk result (IsOrdered ask.now sid servers.old servers.new log.old.events log.new.events) }
+    ensures ok { OnOk result (IsOrderNoted ask.now sid servers.old servers.new log.old.events log.new.events) }
     ensures err { OnErr result (log.new.events ≡ log.old.events) }
     ensures held { OnOk result ((numbers : List ℕ) → CarriesCounts (AreMetered D.meter numbers servers.old log.old.events) (AreMetered D.meter numbers servers.new log.new.events)) }
     ensures left { OnErr result ((numbers : List ℕ) → CarriesCounts (AreMetered D.meter numbers servers.old log.old.events) (AreCounted D.meter numbers servers.new log.new.events)) }
-    ensures pictured { OnOk result (IsTrue D.tells → KeepsRow D.image servers.old log.old.events servers.new log.new.events) }
-    ensures spared { OnErr result (IsTrue D.tells → SparesRow D.image servers.old log.old.events servers.new) }
+    ensures coherent { OnOk result (IsTrue D.tells → NodesStayCoherent D.image servers.old log.old.events servers.new log.new.events) }
+    ensures unchanged { OnErr result (IsTrue D.tells → NodesUnchanged D.image servers.old log.old.events servers.new) }
 {
     rz_node_laws::longer::<D>();
     let Some(place) = find(servers, sid) else {
@@ -56,13 +56,13 @@ pub fn start_node<D: Disk>(
     ensures crashed { OnOk result (IsCrashedAt D.picks D.text sid servers.old servers.new) }
     ensures stayed { OnErr result ((servers.new ≡ servers.old) ⊎ IsCrashedAt D.picks D.text sid servers.old servers.new) }
 
-    ensures ok { OnOk result (IsTrue D.tells → IsOrdered ask.Start sid servers.old servers.new log.old.events log.new.events) }
+    ensures ok { OnOk result (IsTrue D.tells → IsOrderNoted ask.Start sid servers.old servers.new log.old.events log.new.events) }
     ensures started { OnOk result (IsStarted sid servers.old servers.new log.old.events log.new.events) }
     ensures err { OnErr result (log.new.events ≡ log.old.events) }
     ensures held { OnOk result ((numbers : List ℕ) → CarriesCounts (AreMetered D.meter numbers servers.old log.old.events) (AreMetered D.meter numbers servers.new log.new.events)) }
     ensures left { OnErr result ((numbers : List ℕ) → CarriesCounts (AreMetered D.meter numbers servers.old log.old.events) (AreCounted D.meter numbers servers.new log.new.events)) }
-    ensures pictured { OnOk result (IsTrue D.tells → KeepsRow D.image servers.old log.old.events servers.new log.new.events) }
-    ensures spared { OnErr result (IsTrue D.tells → SparesRow D.image servers.old log.old.events servers.new) }
+    ensures coherent { OnOk result (IsTrue D.tells → NodesStayCoherent D.image servers.old log.old.events servers.new log.new.events) }
+    ensures unchanged { OnErr result (IsTrue D.tells → NodesUnchanged D.image servers.old log.old.events servers.new) }
 {
     rz_node_laws::longer::<D>();
     let Some(place) = find(servers, sid) else {
@@ -88,8 +88,8 @@ pub fn arm_node<D: Disk>(
     ensures err { OnErr result (log.new.events ≡ log.old.events) }
     ensures held { OnOk result ((numbers : List ℕ) → CarriesCounts (AreMetered D.meter numbers servers.old log.old.events) (AreMetered D.meter numbers servers.new log.new.events)) }
     ensures left { OnErr result ((numbers : List ℕ) → CarriesCounts (AreMetered D.meter numbers servers.old log.old.events) (AreCounted D.meter numbers servers.new log.new.events)) }
-    ensures pictured { OnOk result (IsTrue D.tells → KeepsRow D.image servers.old log.old.events servers.new log.new.events) }
-    ensures spared { OnErr result (IsTrue D.tells → SparesRow D.image servers.old log.old.events servers.new) }
+    ensures coherent { OnOk result (IsTrue D.tells → NodesStayCoherent D.image servers.old log.old.events servers.new log.new.events) }
+    ensures unchanged { OnErr result (IsTrue D.tells → NodesUnchanged D.image servers.old log.old.events servers.new) }
 {
     rz_node_laws::longer::<D>();
     let Some(place) = find(servers, sid) else {
@@ -118,8 +118,8 @@ fn note(log: &mut Log, event: Option<Event>)
 /// A node stops, or loses its disk.
 fn order<D: Disk>(server: &mut Server<D>, ask: &NodeAsk) -> Option<Event>
     requires ask { StopsOrLoses ask.now }
-    ensures order { IsOrder ask.now server.old server.new result }
-    ensures metered { Goes D.meter server.old server.new result }
+    ensures order { IsOrderAnswered ask.now server.old server.new result }
+    ensures metered { GoesAsServer D.meter server.old server.new result }
     ensures counted { (D.meter server.old.node.disk).own ≤ (D.meter server.new.node.disk).own }
     ensures images { IsTrue D.tells → KeepsImages D.image server.old server.new }
 {
@@ -130,8 +130,8 @@ fn order<D: Disk>(server: &mut Server<D>, ask: &NodeAsk) -> Option<Event>
 }
 
 fn stop<D: Disk>(server: &mut Server<D>) -> Option<Event>
-    ensures order { IsOrder ask.Stop server.old server.new result }
-    ensures metered { Goes D.meter server.old server.new result }
+    ensures order { IsOrderAnswered ask.Stop server.old server.new result }
+    ensures metered { GoesAsServer D.meter server.old server.new result }
     ensures counted { (D.meter server.old.node.disk).own ≤ (D.meter server.new.node.disk).own }
     ensures images { IsTrue D.tells → KeepsImages D.image server.old server.new }
 {
@@ -142,8 +142,8 @@ fn stop<D: Disk>(server: &mut Server<D>) -> Option<Event>
 }
 
 fn lose<D: Disk>(server: &mut Server<D>) -> Option<Event>
-    ensures order { IsOrder ask.Lose server.old server.new result }
-    ensures metered { Goes D.meter server.old server.new result }
+    ensures order { IsOrderAnswered ask.Lose server.old server.new result }
+    ensures metered { GoesAsServer D.meter server.old server.new result }
     ensures counted { (D.meter server.old.node.disk).own ≤ (D.meter server.new.node.disk).own }
     ensures images { IsTrue D.tells → KeepsImages D.image server.old server.new }
 {
@@ -157,10 +157,10 @@ fn lose<D: Disk>(server: &mut Server<D>) -> Option<Event>
 fn start<D: Disk>(alloc: Global, server: &mut Server<D>) -> Result<Option<Event>, Halted>
     requires fuse { IsTrue D.has_fuse }
     ensures called { IsCalled server.old server.new }
-    ensures ok { IfOk result (λ event. IsTrue D.tells → IsOrder ask.Start server.old server.new event) }
+    ensures ok { IfOk result (λ event. IsTrue D.tells → IsOrderAnswered ask.Start server.old server.new event) }
     ensures started { IfOk result (λ event. IsFreeOrder server.old server.new event) }
     ensures crashed { server.old.node.state.phase ≡ Phase.Down → D.picks server.old.node.disk server.old.pick (D.text server.new.node.disk) }
-    ensures metered { IfOk result (λ event. Goes D.meter server.old server.new event) }
+    ensures metered { IfOk result (λ event. GoesAsServer D.meter server.old server.new event) }
     ensures counted { (D.meter server.old.node.disk).own ≤ (D.meter server.new.node.disk).own }
     ensures images { IsTrue D.tells → KeepsImages D.image server.old server.new }
     ensures same { OnErr result (server.new.node.state ≡ server.old.node.state) }
@@ -184,8 +184,8 @@ fn start<D: Disk>(alloc: Global, server: &mut Server<D>) -> Result<Option<Event>
 
 fn arm<D: Disk>(server: &mut Server<D>, passes: u64, pick: u64)
     requires fuse { IsTrue D.has_fuse }
-    ensures armed { IsArmed pick server.old server.new }
-    ensures metered { Goes D.meter server.old server.new (Some (e.Armed server.old.sid passes pick)) }
+    ensures armed { IsDiskArmed pick server.old server.new }
+    ensures metered { GoesAsServer D.meter server.old server.new (Some (e.Armed server.old.sid passes pick)) }
     ensures counted { (D.meter server.old.node.disk).own ≤ (D.meter server.new.node.disk).own }
     ensures images { IsTrue D.tells → KeepsImages D.image server.old server.new }
 {

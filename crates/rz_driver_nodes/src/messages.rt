@@ -4,12 +4,12 @@ ghost use Rattle.rz_cells_slots.specs.Opening.{opening_calls};
 ghost use Rattle.mj_angles.specs.Layout.{max_bins_of};
 ghost use Rattle.rz_block_laws.specs.Laws as laws;
 ghost use Rattle.rz_node.specs.Calls.{Counts, IsNoStart};
-ghost use Rattle.rz_operation.specs.Answers.{IsAnswered, IsAnswerTo};
+ghost use Rattle.rz_operation.specs.Answers.{FitsIfEnough, IsAnswerTo};
 ghost use Rattle.rz_operation_model.specs.Turns.{goes_by_link};
 ghost use Rattle.rz_play_laws.specs.Own.{IsOfActor};
-ghost use Rattle.rz_driver_nodes.specs.Nodes.{IsServed, IsAsked, IsFetchOf, IsPlaced, IsThroughPart, IsReplyLostPart, IsRequestLostPart};
-ghost use Rattle.rz_driver_nodes.specs.Meters.{GoesOn};
-ghost use Rattle.rz_driver_nodes.specs.Images.{KeepsNode, SparesNode};
+ghost use Rattle.rz_driver_nodes.specs.Nodes.{IsNodeServed, IsAsked, IsFetchOf, IsPlaced, IsThroughPart, IsReplyLostPart, IsRequestLostPart};
+ghost use Rattle.rz_driver_nodes.specs.Meters.{OneNodeGoesOn};
+ghost use Rattle.rz_driver_nodes.specs.Images.{NodeStaysCoherent, NodeUnchanged};
 
 use mj_angles::Layout;
 use rz_disk::Disk;
@@ -32,7 +32,7 @@ fn serve<D: Disk>(
     requires layout { node.old.geometry.layout ≡ layout }
     requires asked { (n : ℕ) × IsAsked machine.now n ask.now }
     requires room { max_bins_of layout ≤ length bins.old }
-    ensures served { IfOk result (λ a. IsServed node.old.geometry.cells ask.now a node.old.state node.new.state) }
+    ensures served { IfOk result (λ a. IsNodeServed node.old.geometry.cells ask.now a node.old.state node.new.state) }
     ensures geometry { node.new.geometry ≡ node.old.geometry }
     ensures no_start { OnOk result (IsNoStart ask.now) }
     ensures actor { OnOk result (IsOfActor ask.now) }
@@ -86,7 +86,7 @@ fn tell(layout: Layout, machine: &mut Machine, ask: &NodeAsk, answer: NodeAnswer
     requires placed { IsPlaced layout ask.now }
     requires answers { IsAnswerTo layout ask.now answer }
     requires bins { max_bins_of layout ≤ length bins.now }
-    ensures { IsAnswered machine.old answer bins.now machine.new }
+    ensures { FitsIfEnough machine.old answer bins.now machine.new }
 {
     let _most = layout.max_bins();
     machine.tell_answer(answer, bins);
@@ -113,10 +113,10 @@ pub fn through<D: Disk>(
     ensures ok { OnOk result (IsThroughPart by number node.old.geometry.cells ask node.old.state node.new.state machine.old machine.new log.old.events log.new.events) }
     ensures err { OnErr result (log.new.events ≡ log.old.events) }
     ensures geometry { node.new.geometry ≡ node.old.geometry }
-    ensures metered { OnOk result (GoesOn D.meter number node.old node.new log.old.events log.new.events) }
+    ensures metered { OnOk result (OneNodeGoesOn D.meter number node.old node.new log.old.events log.new.events) }
     ensures counted { (D.meter node.old.disk).own ≤ (D.meter node.new.disk).own }
-    ensures pictured { OnOk result (IsTrue D.tells → KeepsNode D.image by number machine.old machine.new node.old node.new log.old.events log.new.events) }
-    ensures spared { OnErr result (IsTrue D.tells → SparesNode D.image by number machine.old node.old node.new log.old.events) }
+    ensures coherent { OnOk result (IsTrue D.tells → NodeStaysCoherent D.image by number machine.old machine.new node.old node.new log.old.events log.new.events) }
+    ensures unchanged { OnErr result (IsTrue D.tells → NodeUnchanged D.image by number machine.old node.old node.new log.old.events) }
 {
     rz_node_laws::faults();
     rz_block_laws::heard::<D>();
@@ -155,10 +155,10 @@ pub fn without_reply<D: Disk>(
     ensures ok { OnOk result (IsReplyLostPart by number node.old.geometry.cells ask node.old.state node.new.state machine.old machine.new log.old.events log.new.events) }
     ensures err { OnErr result (log.new.events ≡ log.old.events) }
     ensures geometry { node.new.geometry ≡ node.old.geometry }
-    ensures metered { OnOk result (GoesOn D.meter number node.old node.new log.old.events log.new.events) }
+    ensures metered { OnOk result (OneNodeGoesOn D.meter number node.old node.new log.old.events log.new.events) }
     ensures counted { (D.meter node.old.disk).own ≤ (D.meter node.new.disk).own }
-    ensures pictured { OnOk result (IsTrue D.tells → KeepsNode D.image by number machine.old machine.new node.old node.new log.old.events log.new.events) }
-    ensures spared { OnErr result (IsTrue D.tells → SparesNode D.image by number machine.old node.old node.new log.old.events) }
+    ensures coherent { OnOk result (IsTrue D.tells → NodeStaysCoherent D.image by number machine.old machine.new node.old node.new log.old.events log.new.events) }
+    ensures unchanged { OnErr result (IsTrue D.tells → NodeUnchanged D.image by number machine.old node.old node.new log.old.events) }
 {
     rz_node_laws::faults();
     rz_block_laws::heard::<D>();

@@ -86,17 +86,17 @@ pub record AreHands (layout : Layout) (a : Aim) (r : ReaderMachine) (w : BlockWr
   pub bins : CanWrite a w.own
 
 -- the text is that of this block of the batch
-pub record IsPlaced (layout : Layout) (s : Span) (place : ℕ) : Type 0 where
+pub record IsBatchText (layout : Layout) (s : Span) (place : ℕ) : Type 0 where
   pub within : place < length s.batch.blocks
   pub same : block_at layout (from_first_block layout s.range.offset s.bytes.items) place ≡ block_of layout s.text.items
 
 -- the bins of the text are those of the batch at this place, or else those of the writer's own block
 abbrev pub HasBinsOf : Layout → Span → Option ℕ → Option Grid → Type 0
 HasBinsOf layout s None own = own ≡ Some (block_of layout s.text.items)
-HasBinsOf layout s (Some place) own = IsPlaced layout s place
+HasBinsOf layout s (Some place) own = IsBatchText layout s place
 
 -- the writer writes the text
-pub record IsWritten (layout : Layout) (s : Span) (w : BlockWrite) : Type 0 where
+pub record WritesText (layout : Layout) (s : Span) (w : BlockWrite) : Type 0 where
   pub giving : s.aim ≡ aim.Giving
   pub state : w.state.layout ≡ layout
   pub bins : HasBinsOf layout s w.place w.own
@@ -107,20 +107,20 @@ abbrev pub IsFoundText : Option ReadMark → Option Grid → List ℕ → Type 0
 IsFoundText (Some (mark.Found stamp size)) block found = IsSomeAnd block (λ g. take size found ≡ take size (bytes_from g.words))
 IsFoundText end block found = Unit {0}
 
-abbrev pub IsStep : Layout → Span → ReaderMachine → BlockWrite → RangeStep → Type 0
-IsStep layout s r w step.Reading = IsFoundText (reader_end r.state) r.block s.found.items
-IsStep layout s r w step.Writing = IsWritten layout s w
-IsStep layout s r w (step.Ended end) = IsEnd end
+abbrev pub IsRangeStep : Layout → Span → ReaderMachine → BlockWrite → RangeStep → Type 0
+IsRangeStep layout s r w step.Reading = IsFoundText (reader_end r.state) r.block s.found.items
+IsRangeStep layout s r w step.Writing = WritesText layout s w
+IsRangeStep layout s r w (step.Ended end) = IsEnd end
 
 pub record IsFile (layout : Layout) (s : Span) (r : ReaderMachine) (w : BlockWrite) (at : RangeStep) : Type 0 where
   pub span : IsSpan layout s
   pub hands : AreHands layout s.aim r w
-  pub step : IsStep layout s r w at
+  pub step : IsRangeStep layout s r w at
 
 -- a read that begins has nothing fetched
-abbrev pub IsFresh : ReaderMachine → RangeStep → Type 0
-IsFresh r step.Reading = (r.pairs ≡ []) × (r.block ≡ None) × (r.state.stage ≡ Looking)
-IsFresh r s = Unit {0}
+abbrev pub HasNoRecords : ReaderMachine → RangeStep → Type 0
+HasNoRecords r step.Reading = (r.pairs ≡ []) × (r.block ≡ None) × (r.state.stage ≡ Looking)
+HasNoRecords r s = Unit {0}
 
 -- so many bytes were found, which fit a block
 abbrev pub size_of : ReadMark → ℕ

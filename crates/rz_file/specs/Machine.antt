@@ -126,18 +126,18 @@ IsBlockIn layout pairs (Reads r s) block = IsBlockOf layout pairs s.stage block
 IsBlockIn layout pairs state block = block ≡ None
 
 -- the range stands so after an answer; these were the pairs before it went on
-pub record Goes (m : Machine) (had : List Pair) (next : FileState) (new : Machine) : Type 0 where
+pub record IsRangeAfter (m : Machine) (had : List Pair) (next : FileState) (new : Machine) : Type 0 where
   pub layout : new.layout ≡ m.layout
   pub state : new.state ≡ next
   pub pairs : new.pairs ≡ pairs_in new.state had
   pub block : IsBlockIn m.layout had new.state new.block
 
 -- where the records are enough, they fit exactly where some block has them
-abbrev pub IsAnswered : Machine → FileAnswer → List ℕ → Machine → Type 0
-IsAnswered m (told.Read (read.Fetched a)) bins new =
+abbrev pub FitsIfEnough : Machine → FileAnswer → List ℕ → Machine → Type 0
+FitsIfEnough m (told.Read (read.Fetched a)) bins new =
     (fits : Bool) × AreFitting m.layout (pairs_fetched m.layout m.state m.pairs a bins) fits
-    × Goes m (pairs_fetched m.layout m.state m.pairs a bins) (file_told m.layout fits [] m.state (told.Read (read.Fetched a))) new
-IsAnswered m answer bins new = Goes m m.pairs (file_told m.layout true (text_in m.state m.block) m.state answer) new
+    × IsRangeAfter m (pairs_fetched m.layout m.state m.pairs a bins) (file_told m.layout fits [] m.state (told.Read (read.Fetched a))) new
+FitsIfEnough m answer bins new = IsRangeAfter m m.pairs (file_told m.layout true (text_in m.state m.block) m.state answer) new
 
 -- a write that is under way is one between two answers, and is that of the text
 abbrev pub IsUnderWay : FileState → Type 0

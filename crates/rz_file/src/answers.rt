@@ -7,7 +7,7 @@ ghost use Rattle.rz_client_model.specs.Write.{writer_ask, writer_end};
 ghost use Rattle.rz_reader.specs.Machine.{IsBlockOf, pairs_at};
 ghost use Rattle.rz_reader.specs.Told.{IsOtherTold, IsFetchedInto};
 ghost use Rattle.rz_operation_model.specs.Files.{IsFileAnswer, ask_to_read, ask_to_write, file_ask};
-ghost use Rattle.rz_file.specs.Machine.{ComeWith, IsAnswered};
+ghost use Rattle.rz_file.specs.Machine.{ComeWith, FitsIfEnough};
 ghost use Rattle.rz_file.specs.Told.{IsFetchAsk};
 ghost use Rattle.rz_file.specs.Inside.{IsFile, IsFoundText, machine_of, state_of};
 
@@ -32,7 +32,7 @@ pub fn after(
     requires inside { IsFile layout span.old reader.old writer.old step }
     requires asked { IsFileAnswer layout (file_ask (state_of span.old reader.old.state writer.old.state step)) answer }
     requires bins { ComeWith layout (file_ask (state_of span.old reader.old.state writer.old.state step)) answer bins.now }
-    ensures answered { IsAnswered (machine_of layout span.old reader.old writer.old step) answer bins.now (machine_of layout span.new reader.new writer.new result) }
+    ensures answered { FitsIfEnough (machine_of layout span.old reader.old writer.old step) answer bins.now (machine_of layout span.new reader.new writer.new result) }
     ensures inside { IsFile layout span.new reader.new writer.new result }
 {
     match step {
@@ -54,7 +54,7 @@ fn after_reading(
     requires inside { IsFile layout span.old reader.old writer.old RangeStep.Reading }
     requires asked { IsFileAnswer layout (ask_to_read reader.old.state.key.block (reader_end reader.old.state) (reader_ask reader.old.state)) answer }
     requires bins { ComeWith layout (ask_to_read reader.old.state.key.block (reader_end reader.old.state) (reader_ask reader.old.state)) answer bins.now }
-    ensures answered { IsAnswered (machine_of layout span.old reader.old writer.old RangeStep.Reading) answer bins.now (machine_of layout span.new reader.new writer.new result) }
+    ensures answered { FitsIfEnough (machine_of layout span.old reader.old writer.old RangeStep.Reading) answer bins.now (machine_of layout span.new reader.new writer.new result) }
     ensures inside { IsFile layout span.new reader.new writer.new result }
 {
     match answer {
@@ -119,7 +119,7 @@ fn after_writing(
 ) -> RangeStep
     requires inside { IsFile layout span.old reader.old writer.old RangeStep.Writing }
     requires asked { IsFileAnswer layout (ask_to_write writer.old.state.key.block (writer_end writer.old.state) (writer_ask writer.old.state)) answer }
-    ensures answered { (bins : List ℕ) → IsAnswered (machine_of layout span.old reader.old writer.old RangeStep.Writing) answer bins (machine_of layout span.new reader.new writer.new result) }
+    ensures answered { (bins : List ℕ) → FitsIfEnough (machine_of layout span.old reader.old writer.old RangeStep.Writing) answer bins (machine_of layout span.new reader.new writer.new result) }
     ensures inside { IsFile layout span.new reader.new writer.new result }
 {
     match answer {

@@ -6,7 +6,7 @@ ghost use Rattle.rz_client_model.specs.Read.{reader_ask, reader_end};
 ghost use Rattle.rz_client_model.specs.Write.{IsWrite, writer_ask, writer_end};
 ghost use Rattle.rz_operation_model.specs.Files.{ask_to_read, ask_to_write};
 ghost use Rattle.rz_writer.specs.Machine.{IsCountOf};
-ghost use Rattle.rz_file.specs.Inside.{IsSpan, IsWritten, size_found};
+ghost use Rattle.rz_file.specs.Inside.{IsSpan, WritesText, size_found};
 ghost use Rattle.rz_file.specs.Machine.{AreBinsAt, IsAskOf, IsKeepIn};
 
 use crate::block_writer::BlockWriter;
@@ -51,7 +51,7 @@ pub fn write_ask(writer: &BlockWriter) -> FileAsk
 pub fn bins_in<'a>(layout: Layout, span: &'a Span, writer: &'a BlockWriter) -> &'a [u64]
     requires span { IsSpan layout span.now }
     requires layout { writer.now.layout ≡ layout }
-    requires written { IsWritten layout span.now writer.now }
+    requires written { WritesText layout span.now writer.now }
     requires keep { IsKeepIn (writer_ask writer.now.state) }
     ensures bins { AreBinsAt layout span.now.text.items (writer_ask writer.now.state) result.now }
     ensures count { IsCountOf layout (writer_ask writer.now.state) result.now }

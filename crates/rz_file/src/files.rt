@@ -3,7 +3,7 @@
 ghost use Rattle.std.specs.Prelude.{◌≡◌, ◌<◌, ◌+◌, ◌^◌, IfOk, length};
 ghost use Rattle.mj_angles.specs.Layout.{safe_of};
 ghost use Rattle.rz_operation_model.specs.Files.{IsFileAnswer, file_ask, file_end, read_start, write_start};
-ghost use Rattle.rz_file.specs.Machine.{IsAnswered, IsUnderWay, IsKeep, AreBins, ComeWith, machine_with, bytes_in, text_in};
+ghost use Rattle.rz_file.specs.Machine.{FitsIfEnough, IsUnderWay, IsKeep, AreBins, ComeWith, machine_with, bytes_in, text_in};
 
 use crate::{FileMachine, FilePlan};
 use mj_angles::Layout;
@@ -83,7 +83,7 @@ impl FileWrite {
     pub fn tell(&mut self, answer: FileAnswer, bins: &[u64])
         requires asked { IsFileAnswer self.old.layout (file_ask self.old.state) answer }
         requires bins { ComeWith self.old.layout (file_ask self.old.state) answer bins.now }
-        ensures answered { IsAnswered self.old answer bins.now self.new }
+        ensures answered { FitsIfEnough self.old answer bins.now self.new }
         ensures layout { self.new.layout ≡ self.old.layout }
     {
         self.machine.tell(answer, bins);
@@ -158,7 +158,7 @@ impl FileRead {
     pub fn tell(&mut self, answer: FileAnswer, bins: &[u64])
         requires asked { IsFileAnswer self.old.layout (file_ask self.old.state) answer }
         requires bins { ComeWith self.old.layout (file_ask self.old.state) answer bins.now }
-        ensures answered { IsAnswered self.old answer bins.now self.new }
+        ensures answered { FitsIfEnough self.old answer bins.now self.new }
         ensures layout { self.new.layout ≡ self.old.layout }
     {
         self.machine.tell(answer, bins);

@@ -2,7 +2,7 @@
 
 ghost use Rattle.std.specs.Prelude.{◌≡◌, length};
 ghost use Rattle.rz_operation_model.specs.Files.{IsFileAnswer, file_ask, file_end, go_on};
-ghost use Rattle.rz_file.specs.Machine.{IsAnswered, IsUnderWay, IsLaidOut, IsAskOf, IsKeep, AreBins, IsCountIn, IsTextLong, ComeWith, IsEndIn, IsReaderIn, IsWriterIn, IsReading, IsWriting, machine_with, aim_in, bytes_in, text_in, is_taking};
+ghost use Rattle.rz_file.specs.Machine.{FitsIfEnough, IsUnderWay, IsLaidOut, IsAskOf, IsKeep, AreBins, IsCountIn, IsTextLong, ComeWith, IsEndIn, IsReaderIn, IsWriterIn, IsReading, IsWriting, machine_with, aim_in, bytes_in, text_in, is_taking};
 ghost use Rattle.rz_file.specs.Inside.{IsSpan, AreHands, range_in};
 
 use crate::answers::after;
@@ -81,7 +81,7 @@ impl FileMachine {
     pub fn tell(&mut self, answer: FileAnswer, bins: &[u64])
         requires asked { IsFileAnswer self.old.layout (file_ask self.old.state) answer }
         requires bins { ComeWith self.old.layout (file_ask self.old.state) answer bins.now }
-        ensures answered { IsAnswered self.old answer bins.now self.new }
+        ensures answered { FitsIfEnough self.old answer bins.now self.new }
         ensures layout { self.new.layout ≡ self.old.layout }
     {
         self.step = after(

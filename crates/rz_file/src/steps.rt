@@ -9,7 +9,7 @@ ghost use Rattle.rz_operation_model.specs.Ranges.{Giving};
 ghost use Rattle.rz_operation_model.specs.Files.{go_on, next_block, with_text, after_part, after_block};
 ghost use Rattle.rz_file.specs.Ranges.{InRange};
 ghost use Rattle.rz_file.specs.Writing.{own_write};
-ghost use Rattle.rz_file.specs.Inside.{IsSpan, AreHands, IsFile, IsFresh, CanWrite, IsShortMark, size_of, range_in, state_of};
+ghost use Rattle.rz_file.specs.Inside.{IsSpan, AreHands, IsFile, HasNoRecords, CanWrite, IsShortMark, size_of, range_in, state_of};
 
 use crate::block_writer::BlockWriter;
 use crate::range::Range;
@@ -30,7 +30,7 @@ pub fn go_on(
     requires hands { AreHands layout span.old.aim reader.old writer.old }
     ensures state { state_of span.new reader.new.state writer.new.state result ≡ go_on layout (range_in span.old) }
     ensures inside { IsFile layout span.new reader.new writer.new result }
-    ensures fresh { IsFresh reader.new result }
+    ensures fresh { HasNoRecords reader.new result }
 {
     let range = span.range;
     if range.done == range.size {
@@ -49,7 +49,7 @@ fn give(layout: Layout, span: &mut Span, reader: &mut Reader, writer: &mut Block
     requires hands { AreHands layout span.old.aim reader.old writer.old }
     ensures state { state_of span.new reader.new.state writer.new.state result ≡ next_block layout (range_in span.old) (Giving span.old.bytes.items) }
     ensures inside { IsFile layout span.new reader.new writer.new result }
-    ensures fresh { IsFresh reader.new result }
+    ensures fresh { HasNoRecords reader.new result }
 {
     let range = span.range;
     if !range.is_whole(layout) {
@@ -121,7 +121,7 @@ fn with_text(
     requires hands { AreHands layout span.old.aim reader.old writer.old }
     ensures state { state_of span.new reader.new.state writer.new.state result ≡ with_text layout (range_in span.old) (take size span.old.found.items) (range_in span.old).aim }
     ensures inside { IsFile layout span.new reader.new writer.new result }
-    ensures fresh { IsFresh reader.new result }
+    ensures fresh { HasNoRecords reader.new result }
 {
     let range = span.range;
     let start = range.start(layout);
@@ -160,7 +160,7 @@ pub fn after_part(
     requires hands { AreHands layout span.old.aim reader.old writer.old }
     ensures state { state_of span.new reader.new.state writer.new.state result ≡ after_part layout (range_in span.old) (take (size_of mark) span.old.found.items) mark }
     ensures inside { IsFile layout span.new reader.new writer.new result }
-    ensures fresh { IsFresh reader.new result }
+    ensures fresh { HasNoRecords reader.new result }
 {
     match mark {
         ReadMark::Found { length, .. } => with_text(layout, span, length as usize, reader, writer),
@@ -185,7 +185,7 @@ pub fn after_block(
     requires hands { AreHands layout span.old.aim reader.old writer.old }
     ensures state { state_of span.new reader.new.state writer.new.state result ≡ after_block layout (range_in span.old) end }
     ensures inside { IsFile layout span.new reader.new writer.new result }
-    ensures fresh { IsFresh reader.new result }
+    ensures fresh { HasNoRecords reader.new result }
 {
     let bytes = span.range.done;
     match end {

@@ -7,7 +7,7 @@ use Rattle.byteorder.specs.Numbers.{length-bytes_low_first}
 use Rattle.rz_disk.specs.Images.{window, Torn, Written}
 use Rattle.rz_disk.proofs.Images.{apart, apart_byte, same_window, window-byte}
 use Rattle.rz_journal.specs.Row.{Entries, taken, row_bytes, EndsAt}
-use Rattle.rz_journal.specs.Stands.{disk_bytes, half_at, IsJournal, Holds, StandsFor, IsOpen, with_last}
+use Rattle.rz_journal.specs.Stands.{disk_bytes, half_at, IsJournal, HalfHolds, StandsFor, IsHalfOpen, with_last}
 use Rattle.rz_journal.proofs.FramedRows.{SameIn, row_kept, row_more, taken_more, window_split, entry_there, row_written, one_row, length-row_bytes}
 
 pub size_is : disk_bytes ≡ 16_777_216
@@ -33,7 +33,7 @@ ends_kept half entries new old small size is room same ends = record {
 }
 
 -- what leaves the header and the half leaves the entries
-pub holds_kept : (half : ℕ) (entries : Entries) (new old : List ℕ) → length new ≡ length old → SameIn 0 34 new old → SameIn (half_at half) (half_at half + taken entries + 1) new old → Holds half entries old → Holds half entries new
+pub holds_kept : (half : ℕ) (entries : Entries) (new old : List ℕ) → length new ≡ length old → SameIn 0 34 new old → SameIn (half_at half) (half_at half + taken entries + 1) new old → HalfHolds half entries old → HalfHolds half entries new
 holds_kept half entries new old size header same is = record {
   journal = journal_kept half new old size header is.journal;
   ends = ends_kept half entries new old (half_small half old is.journal) size is.journal.size is.room same is.ends;
@@ -46,7 +46,7 @@ rest_all row = take_all (length row - 1) (drop 1 row) (omega (arith, length-drop
 
 -- ---- an entry is added
 
-module _ (half : ℕ) (entries : Entries) (text entry row : List ℕ) (spelled : row ≡ row_bytes (entry ∷ [])) (fits : taken entries + (5 + length entry) < 8_388_576) (is : Holds half entries text) where
+module _ (half : ℕ) (entries : Entries) (text entry row : List ℕ) (spelled : row ≡ row_bytes (entry ∷ [])) (fits : taken entries + (5 + length entry) < 8_388_576) (is : HalfHolds half entries text) where
   rest-is : drop 1 row ≡ (little_bytes 4 (length entry) ++ entry) ++ 0 ∷ []
   rest-is = ap (drop 1) spelled
 
@@ -54,7 +54,7 @@ module _ (half : ℕ) (entries : Entries) (text entry row : List ℕ) (spelled :
   rest-length = ap length rest-is ∙ length-append (little_bytes 4 (length entry) ++ entry) (0 ∷ []) ∙ ap (λ (k : ℕ). k + 1) (length-append (little_bytes 4 (length entry)) entry ∙ ap (λ (k : ℕ). k + length entry) (length-bytes_low_first 0 4 (length entry)))
 
   -- while it is written behind the shut gate
-  pub add_staged : (c : List ℕ) → Torn (half_at half + taken entries + 1) (length (drop 1 row)) text c → Holds half entries c
+  pub add_staged : (c : List ℕ) → Torn (half_at half + taken entries + 1) (length (drop 1 row)) text c → HalfHolds half entries c
   add_staged c torn = holds_kept half entries c text torn.size (λ i from to. torn.below i (omega arith)) (λ i from to. torn.below i to) is
 
   module _ (mid : List ℕ) (written : Written (half_at half + taken entries + 1) (drop 1 row) text mid) (c : List ℕ) (torn : Torn (half_at half + taken entries) 1 mid c) where
@@ -74,7 +74,7 @@ module _ (half : ℕ) (entries : Entries) (text entry row : List ℕ) (spelled :
         ∙ written.there
         ∙ rest-is
 
-    pub gate_shut : get_or c (half_at half + taken entries) 0 % 2 ≡ 0 → Holds half entries c
+    pub gate_shut : get_or c (half_at half + taken entries) 0 % 2 ≡ 0 → HalfHolds half entries c
     gate_shut shut = record {
       journal = journal_kept half c text size (λ i from to. below i from (omega arith)) is.journal;
       ends = record {
@@ -84,7 +84,7 @@ module _ (half : ℕ) (entries : Entries) (text entry row : List ℕ) (spelled :
       room = is.room;
     }
 
-    pub gate_open : get_or c (half_at half + taken entries) 0 % 2 ≡ 1 → Holds half (with_last entry entries) c
+    pub gate_open : get_or c (half_at half + taken entries) 0 % 2 ≡ 1 → HalfHolds half (with_last entry entries) c
     gate_open gate =
         let parts = window_split (half_at half + taken entries + 1) (4 + length entry) 1 c (little_bytes 4 (length entry) ++ entry) (0 ∷ []) (length-append (little_bytes 4 (length entry)) entry ∙ ap (λ (k : ℕ). k + length entry) (length-bytes_low_first 0 4 (length entry))) there in
         let one = entry_there (half_at half + taken entries) entry c (omega arith) gate parts.0 in
@@ -101,11 +101,11 @@ module _ (half : ℕ) (entries : Entries) (text entry row : List ℕ) (spelled :
         }
 
     -- while its gate is opened
-    pub add_flipped : Holds half entries c ⊎ Holds half (with_last entry entries) c
+    pub add_flipped : HalfHolds half entries c ⊎ HalfHolds half (with_last entry entries) c
     add_flipped = ⊎_elim (λ (lt : get_or c (half_at half + taken entries) 0 % 2 < 1). inl (gate_shut (omega arith))) (λ (le : 1 ≤ get_or c (half_at half + taken entries) 0 % 2). inr (gate_open (omega arith))) (cases_lt (get_or c (half_at half + taken entries) 0 % 2) 1)
 
   -- and then
-  pub add_done : (mid c : List ℕ) → Written (half_at half + taken entries + 1) (drop 1 row) text mid → Written (half_at half + taken entries) (1 ∷ []) mid c → Holds half (with_last entry entries) c
+  pub add_done : (mid c : List ℕ) → Written (half_at half + taken entries + 1) (drop 1 row) text mid → Written (half_at half + taken entries) (1 ∷ []) mid c → HalfHolds half (with_last entry entries) c
   add_done mid c written gate =
       let here : half_at half + taken entries + 0 ≡ half_at half + taken entries = omega arith in
       let byte : get_or c (half_at half + taken entries) 0 ≡ 1 = ap (λ (k : ℕ). get_or c k 0) (sym here) ∙ sym (window-byte (half_at half + taken entries) 1 c 0 (omega arith)) ∙ ap (λ (l : List ℕ). get_or l 0 0) gate.there in
@@ -113,7 +113,7 @@ module _ (half : ℕ) (entries : Entries) (text entry row : List ℕ) (spelled :
 
 -- ---- all entries are replaced
 
-module _ (half : ℕ) (entries new : Entries) (text row : List ℕ) (spelled : row ≡ row_bytes new) (fits : taken new < 8_388_576) (is : Holds half entries text) where
+module _ (half : ℕ) (entries new : Entries) (text row : List ℕ) (spelled : row ≡ row_bytes new) (fits : taken new < 8_388_576) (is : HalfHolds half entries text) where
   other-small : half < 2
   other-small = half_small half text is.journal
 
@@ -127,7 +127,7 @@ module _ (half : ℕ) (entries new : Entries) (text row : List ℕ) (spelled : r
       (cases_lt half 1)
 
   -- while they are written into the half that does not count
-  pub replace_staged : (c : List ℕ) → Torn (half_at (1 - half)) (length row) text c → Holds half entries c
+  pub replace_staged : (c : List ℕ) → Torn (half_at (1 - half)) (length row) text c → HalfHolds half entries c
   replace_staged c torn = holds_kept half entries c text torn.size (λ i from to. torn.below i (omega arith))
       (λ i from to. apart_byte (half_at (1 - half)) (length row) text c i torn (apart_from i from to)) is
 
@@ -138,7 +138,7 @@ module _ (half : ℕ) (entries new : Entries) (text row : List ℕ) (spelled : r
     front : SameIn 0 33 c text
     front i from to = torn.below i to ∙ written.torn.below i (omega arith)
 
-    pub half_old : get_or c 33 0 % 2 ≡ half → Holds half entries c
+    pub half_old : get_or c 33 0 % 2 ≡ half → HalfHolds half entries c
     half_old picked = record {
       journal = record {
         size = replace-size ∙ is.journal.size;
@@ -151,7 +151,7 @@ module _ (half : ℕ) (entries new : Entries) (text row : List ℕ) (spelled : r
       room = is.room;
     }
 
-    pub half_new : get_or c 33 0 % 2 ≡ 1 - half → Holds (1 - half) new c
+    pub half_new : get_or c 33 0 % 2 ≡ 1 - half → HalfHolds (1 - half) new c
     half_new picked =
         let there : window (half_at (1 - half)) (length row) c ≡ row = apart 33 1 mid c (half_at (1 - half)) (length row) torn (omega (arith, written.torn.size, is.journal.size, size_is, row-length, other-small)) (inr (omega arith)) ∙ written.there in
         let exact : window (half_at (1 - half)) (length (row_bytes new)) c ≡ row_bytes new = subst (λ (l : List ℕ). window (half_at (1 - half)) (length l) c ≡ l) spelled there in
@@ -167,34 +167,34 @@ module _ (half : ℕ) (entries new : Entries) (text row : List ℕ) (spelled : r
         }
 
     -- while the other half is picked
-    pub replace_flipped : Holds half entries c ⊎ Holds (1 - half) new c
+    pub replace_flipped : HalfHolds half entries c ⊎ HalfHolds (1 - half) new c
     replace_flipped = ⊎_elim
         (λ (lt : get_or c 33 0 % 2 < 1). ⊎_elim (λ (zero : half < 1). inl (half_old (omega arith))) (λ (one : 1 ≤ half). inr (half_new (omega (arith, other-small)))) (cases_lt half 1))
         (λ (le : 1 ≤ get_or c 33 0 % 2). ⊎_elim (λ (zero : half < 1). inr (half_new (omega arith))) (λ (one : 1 ≤ half). inl (half_old (omega (arith, other-small)))) (cases_lt half 1))
         (cases_lt (get_or c 33 0 % 2) 1)
 
   -- and then
-  pub replace_done : (mid c : List ℕ) → Written (half_at (1 - half)) row text mid → Written 33 ((1 - half) ∷ []) mid c → Holds (1 - half) new c
+  pub replace_done : (mid c : List ℕ) → Written (half_at (1 - half)) row text mid → Written 33 ((1 - half) ∷ []) mid c → HalfHolds (1 - half) new c
   replace_done mid c written gate =
       let byte : get_or c 33 0 ≡ 1 - half = sym (window-byte 33 1 c 0 (omega arith)) ∙ ap (λ (l : List ℕ). get_or l 0 0) gate.there in
       half_new mid written c gate.torn (omega (arith, byte))
 
 -- a text holds one list at most
-pub one_list : (half other : ℕ) (a b : Entries) (text : List ℕ) → Holds half a text → Holds other b text → (half ≡ other) × (a ≡ b)
+pub one_list : (half other : ℕ) (a b : Entries) (text : List ℕ) → HalfHolds half a text → HalfHolds other b text → (half ≡ other) × (a ≡ b)
 one_list half other a b text is-a is-b =
     let same : half ≡ other = sym is-a.journal.picked ∙ is-b.journal.picked in
     (same, one_row a b (half_at half) text is-a.ends (subst (λ (h : ℕ). EndsAt (half_at h) b text) (sym same) is-b.ends))
 
 -- of a disk that is open, the list is the one whose bytes are counted
-pub known_list : (tells : Bool) (text : List ℕ) (image : List ℕ → Type 0) (half used : ℕ) → IsOpen tells text image half used → IsTrue tells → (entries : Entries) → StandsFor text entries → Holds half entries text × (taken entries ≡ used)
+pub known_list : (tells : Bool) (text : List ℕ) (image : List ℕ → Type 0) (half used : ℕ) → IsHalfOpen tells text image half used → IsTrue tells → (entries : Entries) → StandsFor text entries → HalfHolds half entries text × (taken entries ≡ used)
 known_list tells text image half used open_it told entries stands =
     let mine = open_it.holds told in
     let one = one_list half stands.0 mine.0 entries text mine.1 stands.1 in
-    (subst (λ (es : Entries). Holds half es text) one.1 mine.1, ap taken (sym one.1) ∙ mine.2)
+    (subst (λ (es : Entries). HalfHolds half es text) one.1 mine.1, ap taken (sym one.1) ∙ mine.2)
 
 -- in whichever half
-pub either_half : (half other : ℕ) (a b : Entries) (c : List ℕ) → Holds half a c ⊎ Holds other b c → StandsFor c a ⊎ StandsFor c b
-either_half half other a b c left = ⊎_elim (λ (h : Holds half a c). inl (half, h)) (λ (h : Holds other b c). inr (other, h)) left
+pub either_half : (half other : ℕ) (a b : Entries) (c : List ℕ) → HalfHolds half a c ⊎ HalfHolds other b c → StandsFor c a ⊎ StandsFor c b
+either_half half other a b c left = ⊎_elim (λ (h : HalfHolds half a c). inl (half, h)) (λ (h : HalfHolds other b c). inr (other, h)) left
 
 -- the bytes of one entry, with the shut gate
 pub length-one : (row entry : List ℕ) → row ≡ row_bytes (entry ∷ []) → length row ≡ 6 + length entry

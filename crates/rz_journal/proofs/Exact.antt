@@ -18,7 +18,7 @@ use Rattle.rz_journal.specs.JournalText.{IsAccepted, AreAccepted, after_all, Beg
 use Rattle.rz_journal.specs.Listed.{length_at}
 use Rattle.rz_journal.specs.declared.rebuilding.JournalFault.{JournalFault}
 use Rattle.rz_journal.specs.declared.rebuilding.JournalFault.TheVariants.{NoMemory, WrongSize, DiskFault, Unformatted, BadHeader, Damaged}
-use Rattle.rz_journal.specs.Opening.{AreNoneOrAll, EndWell, Goes, IsWrong, HasDamagedAt, IsRefused}
+use Rattle.rz_journal.specs.Opening.{AreNoneOrAll, EndWell, MayFollowEntries, IsWrong, HasDamagedAt, IsJournalRefused}
 use Rattle.rz_journal.proofs.Changes.{size_is}
 use Rattle.rz_journal.proofs.Opened.{half_size_is}
 use Rattle.rz_journal.proofs.Halves.{half-length, ends_back}
@@ -113,12 +113,12 @@ calls_to s (x ∷ xs) e more (c ∷ calls) said all =
     }
 
 -- an entry that makes an export with those before it and behind it may stand there
-makes_goes : (volume : Volume) (before : List Said) (e : Said) (more : List Said) (s : Export) → Makes volume (before ++ e ∷ more) s → Goes volume before e
+makes_goes : (volume : Volume) (before : List Said) (e : Said) (more : List Said) (s : Export) → Makes volume (before ++ e ∷ more) s → MayFollowEntries volume before e
 makes_goes volume before e more s m = go (among before e more m.parts m.later m.are)
   where
-    go : IsAmong before e more m.parts m.later → Goes volume before e
+    go : IsAmong before e more m.parts m.later → MayFollowEntries volume before e
     go (inl (ps, p, qs, front, is, all)) =
-        subst (Goes volume before) (sym is)
+        subst (MayFollowEntries volume before) (sym is)
         (ps, front, follow_at volume [] ps p qs (subst (AllFollow volume []) all (begins_each volume m.parts m.first m.begins)))
     go (inr (xs, front, rest)) =
         let to = calls_to m.first xs e more m.calls (subst (λ (l : List Said). map call_said l ≡ map Some m.calls) rest m.said) m.accepted in
@@ -201,7 +201,7 @@ module _ (volume : Volume) (half : List ℕ) (before : List Said) (used : ℕ) (
       let long : length step.0 ≡ length b = sym step.1.count ∙ there.count in
       let same : step.0 ≡ b = sym step.1.bytes ∙ ap (λ (n : ℕ). window (used + 5) n half) long ∙ there.bytes in
       let is : e ≡ d = one_entry b e d spelled (subst (λ (l : List ℕ). Spells l d) same step.2) in
-      never (subst (Goes volume before) is (makes_goes volume before e more s makes))
+      never (subst (MayFollowEntries volume before) is (makes_goes volume before e more s makes))
   at_entry b e more there spelled inside makes (inr (inr (end, bad))) = let gate = there.gate in omega (arith, end, gate)
 
 not_wrong : (volume : Volume) (half : List ℕ) (before : List Said) (used : ℕ) (s : Export) (rest : Entries) (more : List Said) → EndsAt used rest half → AreSpelled rest more → used + taken rest < length half
@@ -237,7 +237,7 @@ undamaged volume text number s keeps (half, journal, damaged) =
     (subst (λ (l : List Said). Makes volume l s) is.all keeps.makes) damaged.wrong
 
 -- a text that stands for calls is refused by want of memory or a failed device call alone
-pub exact : (tells : Bool) (volume : Volume) (text : List ℕ) (fault : JournalFault) → IsRefused tells volume text fault → IsTrue tells → (calls : List Call) → IsTextOf volume text calls
+pub exact : (tells : Bool) (volume : Volume) (text : List ℕ) (fault : JournalFault) → IsJournalRefused tells volume text fault → IsTrue tells → (calls : List Call) → IsTextOf volume text calls
     → (fault ≡ NoMemory) ⊎ (fault ≡ DiskFault)
 exact tells volume text NoMemory why told calls is = inl refl
 exact tells volume text (WrongSize have need) why told calls is = absurd (why.2 is.keeps.stands.1.journal.size)

@@ -4,7 +4,7 @@ use Rattle.std.proofs.lemmas.Bool.{cases_lt}
 use Rattle.std.proofs.lemmas.List.{get_or-replicate, get_or_past, length-replicate}
 use Rattle.rz_disk.specs.Images.{window, Torn, Written}
 use Rattle.rz_disk.proofs.Images.{apart, window-byte}
-use Rattle.rz_journal.specs.Stands.{disk_bytes, header_bytes, Holds, StandsFor, IsShut}
+use Rattle.rz_journal.specs.Stands.{disk_bytes, header_bytes, HalfHolds, StandsFor, IsShut}
 use Rattle.rz_journal.proofs.Changes.{size_is}
 
 abbrev blank : ℕ → List ℕ
@@ -17,8 +17,8 @@ zero_at n i = ⊎_elim (λ (lt : i < n). get_or-replicate n i 0 0 lt) (λ (le : 
 pub zeros_shut : (n : ℕ) (c : List ℕ) → c ≡ replicate n 0 → IsShut c
 zeros_shut n c is = ap (λ (l : List ℕ). get_or l 32 0 % 2) is ∙ ap (λ (b : ℕ). b % 2) (zero_at n 32)
 
-pub shut_or_none : (Was : Type 0) (c : List ℕ) → Was ⊎ IsShut c ⊎ Holds 0 [] c → Was ⊎ IsShut c ⊎ StandsFor c []
-shut_or_none Was c left = ⊎_elim (λ (was : Was). inl was) (λ (new : IsShut c ⊎ Holds 0 [] c). inr (⊎_elim (λ (shut : IsShut c). inl shut) (λ (none : Holds 0 [] c). inr (0, none)) new)) left
+pub shut_or_none : (Was : Type 0) (c : List ℕ) → Was ⊎ IsShut c ⊎ HalfHolds 0 [] c → Was ⊎ IsShut c ⊎ StandsFor c []
+shut_or_none Was c left = ⊎_elim (λ (was : Was). inl was) (λ (new : IsShut c ⊎ HalfHolds 0 [] c). inr (⊎_elim (λ (shut : IsShut c). inl shut) (λ (none : HalfHolds 0 [] c). inr (0, none)) new)) left
 
 module _ (header : List ℕ) (is : header ≡ header_bytes) where
   header-length : length header ≡ 32
@@ -35,7 +35,7 @@ module _ (header : List ℕ) (is : header ≡ header_bytes) where
     zeros : (i : ℕ) → 33 ≤ i → get_or c i 0 ≡ 0
     zeros i past = torn.above i past ∙ written.torn.above i (omega (arith, header-length)) ∙ zero_at disk_bytes i
 
-    pub opened : get_or c 32 0 % 2 ≡ 1 → Holds 0 [] c
+    pub opened : get_or c 32 0 % 2 ≡ 1 → HalfHolds 0 [] c
     opened gate = record {
       journal = record {
         size = torn.size ∙ mid-size;
@@ -48,11 +48,11 @@ module _ (header : List ℕ) (is : header ≡ header_bytes) where
     }
 
     -- while its gate is opened
-    pub gate_torn : IsShut c ⊎ Holds 0 [] c
+    pub gate_torn : IsShut c ⊎ HalfHolds 0 [] c
     gate_torn = ⊎_elim (λ (lt : get_or c 32 0 % 2 < 1). inl (omega arith)) (λ (le : 1 ≤ get_or c 32 0 % 2). inr (opened (omega arith))) (cases_lt (get_or c 32 0 % 2) 1)
 
   -- and then
-  pub gate_done : (mid c : List ℕ) → Written 0 header (blank disk_bytes) mid → Written 32 (1 ∷ []) mid c → Holds 0 [] c
+  pub gate_done : (mid c : List ℕ) → Written 0 header (blank disk_bytes) mid → Written 32 (1 ∷ []) mid c → HalfHolds 0 [] c
   gate_done mid c written gate =
       let byte : get_or c 32 0 ≡ 1 = sym (window-byte 32 1 c 0 (omega arith)) ∙ ap (λ (l : List ℕ). get_or l 0 0) gate.there in
       opened mid c written gate.torn (omega (arith, byte))

@@ -11,15 +11,15 @@ use Rattle.rz_export_laws.specs.Whole.{IsWhole}
 use Rattle.rz_journal_text.specs.declared.entry.Entry.{Entry}
 use Rattle.rz_journal_text.specs.Spelling.{entry_bytes}
 use Rattle.rz_journal.specs.Row.{taken}
-use Rattle.rz_journal.specs.Stands.{StandsFor, IsJournal, IsSameHalf, IsShut, IsOpen, Either, Becomes, with_last, instead}
+use Rattle.rz_journal.specs.Stands.{StandsFor, IsJournal, IsSameHalf, IsShut, IsHalfOpen, Either, Becomes, with_last, instead}
 use Rattle.rz_journal.proofs.FramedRows.{length-row_bytes}
 use Rattle.rz_journal.specs.Said.{entry_of, accepts, used_after}
 use Rattle.rz_journal.specs.JournalText.{IsAccepted, AreAccepted, after_all, Makes, Keeps, IsTextOf}
 use Rattle.rz_journal.specs.Room.{bytes_of, part_entries, row_length, needed, FitsNowhere, IsRow}
-use Rattle.rz_journal.specs.Kept.{IsReady, IsRowOf, AllKeep, KeepsEither, AllKeepEither, IsAfter, AllStandFor, AllStandForEither}
+use Rattle.rz_journal.specs.Kept.{IsJournalReady, IsRowOf, AllKeep, KeepsEither, AllKeepEither, IsExportAfter, AllStandFor, AllStandForEither}
 use Rattle.rz_journal.specs.declared.journal.JournalReply.{JournalReply}
 use Rattle.rz_journal.specs.declared.journal.JournalReply.TheVariants as answer
-use Rattle.rz_journal.specs.Seen.{JournalView, HasRoom, IsOpenAnswer, IsInPlace, IfReply, calls_after}
+use Rattle.rz_journal.specs.Seen.{JournalView, HasEntryRoom, IsOpenAnswer, IsInPlace, IfReply, calls_after}
 use Rattle.rz_journal.proofs.Makings.{after_more, accepted_more, makes_more, makes_none, spelled_more}
 use Rattle.rz_journal.proofs.Refused.{unaccepted_same, unkept_same, volume_same}
 
@@ -28,7 +28,7 @@ pub row_long : (entries : List Entry) (row : List ℕ) → IsRow entries row →
 row_long entries row is = ap length is.1 ∙ length-row_bytes (bytes_of entries)
 
 -- the one image keeps the export
-pub ready_keeps : (tells : Bool) (text : List ℕ) (image : List ℕ → Type 0) (half used : ℕ) (s : Export) → IsReady tells text image half used s → IsTrue tells → AllKeep image s
+pub ready_keeps : (tells : Bool) (text : List ℕ) (image : List ℕ → Type 0) (half used : ℕ) (s : Export) → IsJournalReady tells text image half used s → IsTrue tells → AllKeep image s
 ready_keeps tells text image half used s ready told c left = subst (λ (t : List ℕ). Keeps s.volume t s) (sym (ready.is_open.settled c left)) (ready.keeps told)
 
 -- the same entries on another text
@@ -51,7 +51,7 @@ kept_more volume text new row s c e keeps is accepted at stands = record {
 
 -- ---- the parts in the place of all entries
 
-module _ (tells : Bool) (text : List ℕ) (image : List ℕ → Type 0) (half used : ℕ) (s : Export) (ready : IsReady tells text image half used s) (row : List ℕ) (is : IsRow (part_entries s) row) (makes : Makes s.volume (part_entries s) s) (told : IsTrue tells) where
+module _ (tells : Bool) (text : List ℕ) (image : List ℕ → Type 0) (half used : ℕ) (s : Export) (ready : IsJournalReady tells text image half used s) (row : List ℕ) (is : IsRow (part_entries s) row) (makes : Makes s.volume (part_entries s) s) (told : IsTrue tells) where
   pub replaced_images : (left : List ℕ → Type 0) → Either (instead (bytes_of (part_entries s))) text left → AllKeep left s
   replaced_images left either c at =
       let keeps = ready.keeps told in
@@ -67,7 +67,7 @@ module _ (tells : Bool) (text : List ℕ) (image : List ℕ → Type 0) (half us
 
 -- ---- one entry more
 
-module _ (tells : Bool) (text : List ℕ) (image : List ℕ → Type 0) (half used : ℕ) (s : Export) (ready : IsReady tells text image half used s) (row : List ℕ) (c : Call) (e : Entry) (at : entry_of c ≡ Some e) (is : IsRow (e ∷ []) row) (accepted : IsAccepted s c) (told : IsTrue tells) where
+module _ (tells : Bool) (text : List ℕ) (image : List ℕ → Type 0) (half used : ℕ) (s : Export) (ready : IsJournalReady tells text image half used s) (row : List ℕ) (c : Call) (e : Entry) (at : entry_of c ≡ Some e) (is : IsRow (e ∷ []) row) (accepted : IsAccepted s c) (told : IsTrue tells) where
   pub added_images : (left : List ℕ → Type 0) → Either (with_last (entry_bytes e)) text left → AllKeepEither left s c
   added_images left either d there =
       let keeps = ready.keeps told in
@@ -108,16 +108,16 @@ answered_volume s u c r answered = ⊎_elim
 
 -- ---- the calls for which a text stands
 
-pub stands_for : (s : Export) (calls : List Call) (text : List ℕ) → IsAfter s calls → Keeps s.volume text s → IsTextOf s.volume text calls
+pub stands_for : (s : Export) (calls : List Call) (text : List ℕ) → IsExportAfter s calls → Keeps s.volume text s → IsTextOf s.volume text calls
 stands_for s calls text after keeps = record { accepted = after.accepted; keeps = subst (λ (u : Export). Keeps s.volume text u) after.made keeps }
 
-pub stands_more : (s : Export) (calls : List Call) (c : Call) (text : List ℕ) → IsAfter s calls → IsAccepted s c → Keeps s.volume text (export_after s c) → IsTextOf s.volume text (calls ++ c ∷ [])
+pub stands_more : (s : Export) (calls : List Call) (c : Call) (text : List ℕ) → IsExportAfter s calls → IsAccepted s c → Keeps s.volume text (export_after s c) → IsTextOf s.volume text (calls ++ c ∷ [])
 stands_more s calls c text after is keeps = record {
   accepted = accepted_more (new_export s.volume 0) calls c after.accepted (subst (λ (u : Export). IsAccepted u c) after.made is);
   keeps = subst (λ (u : Export). Keeps s.volume text u) (ap (λ (u : Export). export_after u c) after.made ∙ sym (after_more (new_export s.volume 0) calls c)) keeps;
 }
 
-pub stands_either : (s : Export) (calls : List Call) (c : Call) (text : List ℕ) → IsAfter s calls → KeepsEither s c text → IsTextOf s.volume text calls ⊎ IsTextOf s.volume text (calls ++ c ∷ [])
+pub stands_either : (s : Export) (calls : List Call) (c : Call) (text : List ℕ) → IsExportAfter s calls → KeepsEither s c text → IsTextOf s.volume text calls ⊎ IsTextOf s.volume text (calls ++ c ∷ [])
 stands_either s calls c text after either = ⊎_elim
     (λ (same : Keeps s.volume text s). inl (stands_for s calls text after same))
     (λ (more : IsAccepted s c × Keeps s.volume text (export_after s c)). inr (stands_more s calls c text after more.0 more.1))
@@ -137,9 +137,9 @@ none_left Was volume text left = ⊎_elim
     (λ (new : IsShut text ⊎ StandsFor text []). inr (⊎_elim (λ (shut : IsShut text). inl shut) (λ (none : StandsFor text []). inr (none_text volume text none)) new))
     left
 
-pub new_ready : (tells : Bool) (volume : Volume) (text : List ℕ) (image : List ℕ → Type 0) (half used : ℕ) (s : Export) → IsWhole (new_export volume 0) → s ≡ new_export volume 0 → IsOpen tells text image half used → (IsTrue tells → StandsFor text []) → IsReady tells text image half used s
+pub new_ready : (tells : Bool) (volume : Volume) (text : List ℕ) (image : List ℕ → Type 0) (half used : ℕ) (s : Export) → IsWhole (new_export volume 0) → s ≡ new_export volume 0 → IsHalfOpen tells text image half used → (IsTrue tells → StandsFor text []) → IsJournalReady tells text image half used s
 new_ready tells volume text image half used s whole is is_open none =
-    subst (λ (u : Export). IsReady tells text image half used u) (sym is)
+    subst (λ (u : Export). IsJournalReady tells text image half used u) (sym is)
     record { is_open = is_open; keeps = λ told. none_kept volume text (none told); whole = whole }
 
 -- ---- what fits
@@ -163,10 +163,10 @@ room_there s used row parts need long is fits nowhere =
 
 -- ---- one entry more, and the journal goes on
 
-pub ready_after : (tells : Bool) (text : List ℕ) (image : List ℕ → Type 0) (half used : ℕ) (s : Export) → IsReady tells text image half used s → (row : List ℕ) (c : Call) (e : Entry) → entry_of c ≡ Some e → IsRow (e ∷ []) row → IsAccepted s c → IsWhole (export_after s c)
-    → (new : List ℕ) (left : List ℕ → Type 0) (side count : ℕ) (u : Export) → u ≡ export_after s c → IsOpen tells new left side count → (IsTrue tells → Becomes (with_last (entry_bytes e)) text new) → IsReady tells new left side count u
+pub ready_after : (tells : Bool) (text : List ℕ) (image : List ℕ → Type 0) (half used : ℕ) (s : Export) → IsJournalReady tells text image half used s → (row : List ℕ) (c : Call) (e : Entry) → entry_of c ≡ Some e → IsRow (e ∷ []) row → IsAccepted s c → IsWhole (export_after s c)
+    → (new : List ℕ) (left : List ℕ → Type 0) (side count : ℕ) (u : Export) → u ≡ export_after s c → IsHalfOpen tells new left side count → (IsTrue tells → Becomes (with_last (entry_bytes e)) text new) → IsJournalReady tells new left side count u
 ready_after tells text image half used s ready row c e at is accepted whole new left side count u same is_open becomes =
-    subst (λ (v : Export). IsReady tells new left side count v) (sym same)
+    subst (λ (v : Export). IsJournalReady tells new left side count v) (sym same)
     record {
       is_open = is_open;
       keeps = λ told. subst (λ (v : Volume). Keeps v new (export_after s c)) (sym (volume_same s c)) (added_text tells text image half used s ready row c e at is accepted told new (becomes told));
@@ -181,13 +181,13 @@ answered_unkept s u c r answered none = ⊎_elim
 
 -- ---- the calls after a reply
 
-pub all_stand : (image : List ℕ → Type 0) (s : Export) → AllKeep image s → (calls : List Call) → IsAfter s calls → AllStandFor image s calls
+pub all_stand : (image : List ℕ → Type 0) (s : Export) → AllKeep image s → (calls : List Call) → IsExportAfter s calls → AllStandFor image s calls
 all_stand image s keep calls after text left = stands_for s calls text after (keep text left)
 
-pub all_either : (image : List ℕ → Type 0) (s : Export) (c : Call) → AllKeepEither image s c → (calls : List Call) → IsAfter s calls → AllStandForEither image s calls c
+pub all_either : (image : List ℕ → Type 0) (s : Export) (c : Call) → AllKeepEither image s c → (calls : List Call) → IsExportAfter s calls → AllStandForEither image s calls c
 all_either image s c keep calls after text left = stands_either s calls c text after (keep text left)
 
-after_one : (s u : Export) (c : Call) (calls : List Call) → IsAfter s calls → IsAccepted s c → u ≡ export_after s c → IsAfter u (calls ++ c ∷ [])
+after_one : (s u : Export) (c : Call) (calls : List Call) → IsExportAfter s calls → IsAccepted s c → u ≡ export_after s c → IsExportAfter u (calls ++ c ∷ [])
 after_one s u c calls after is same =
     let volume : u.volume ≡ s.volume = ap (λ (x : Export). x.volume) same ∙ volume_same s c in
     record {
@@ -195,11 +195,11 @@ after_one s u c calls after is same =
       made = same ∙ ap (λ (x : Export). export_after x c) after.made ∙ sym (after_more (new_export s.volume 0) calls c) ∙ ap (λ (v : Volume). after_all (new_export v 0) (calls ++ c ∷ [])) (sym volume);
     }
 
-same_after : (s u : Export) (calls : List Call) → IsAfter s calls → u ≡ s → IsAfter u calls
-same_after s u calls after same = subst (λ (x : Export). IsAfter x calls) (sym same) after
+same_after : (s u : Export) (calls : List Call) → IsExportAfter s calls → u ≡ s → IsExportAfter u calls
+same_after s u calls after same = subst (λ (x : Export). IsExportAfter x calls) (sym same) after
 
 -- after a call that the export answered: by whether it has an entry, and whether it was accepted
-after_by : (s u : Export) (c : Call) (r : Reply) (calls : List Call) (kept good : Bool) → is_some (entry_of c) ≡ kept → accepts r ≡ good → is_proper s c ≡ true → IsAnswered s c r u → IsAfter s calls → IsAfter u (cond (kept && good) (calls ++ c ∷ []) calls)
+after_by : (s u : Export) (c : Call) (r : Reply) (calls : List Call) (kept good : Bool) → is_some (entry_of c) ≡ kept → accepts r ≡ good → is_proper s c ≡ true → IsAnswered s c r u → IsExportAfter s calls → IsExportAfter u (cond (kept && good) (calls ++ c ∷ []) calls)
 after_by s u c r calls true true is_kept is_good proper answered after =
     let so = answered_so s u c r answered is_good in
     after_one s u c calls after (record { kept = is_kept; proper = proper; accepted = so.0 }) so.1
@@ -210,12 +210,12 @@ after_by s u c r calls false good is_kept is_good proper answered after = same_a
     none_of None is = refl
     none_of (Some e) is = absurd (cc)
 
-pub after_answer : (s u : Export) (c : Call) (r : Reply) (calls : List Call) → is_proper s c ≡ true → IsAnswered s c r u → IsAfter s calls → IsAfter u (calls_after r c calls)
+pub after_answer : (s u : Export) (c : Call) (r : Reply) (calls : List Call) → is_proper s c ≡ true → IsAnswered s c r u → IsExportAfter s calls → IsExportAfter u (calls_after r c calls)
 after_answer s u c r calls proper answered after = after_by s u c r calls (is_some (entry_of c)) (accepts r) refl refl proper answered after
 
-pub after_want : (s u : Export) (c : Call) (calls : List Call) → u ≡ s → IsAfter s calls → IsAfter u (calls_after NoMemory c calls)
+pub after_want : (s u : Export) (c : Call) (calls : List Call) → u ≡ s → IsExportAfter s calls → IsExportAfter u (calls_after NoMemory c calls)
 after_want s u c calls same after =
-    subst (λ (b : Bool). IsAfter u (cond b (calls ++ c ∷ []) calls)) (sym (and_not (is_some (entry_of c)))) (same_after s u calls after same)
+    subst (λ (b : Bool). IsExportAfter u (cond b (calls ++ c ∷ []) calls)) (sym (and_not (is_some (entry_of c)))) (same_after s u calls after same)
   where
     and_not : (a : Bool) → (a && false) ≡ false
     and_not true = refl
@@ -223,11 +223,11 @@ after_want s u c calls same after =
 
 -- the calls after a reply of an open journal give its export
 pub calls_answer : {D : Type 0} (old new : JournalView D) (c : Call) (r : JournalReply) → is_proper old.export c ≡ true → IsOpenAnswer old c r new
-    → IfReply r (λ told. (calls : List Call) → IsAfter old.export calls → IsAfter new.export (calls_after told c calls))
+    → IfReply r (λ told. (calls : List Call) → IsExportAfter old.export calls → IsExportAfter new.export (calls_after told c calls))
 calls_answer old new c (answer.Reply told) proper is = λ calls after. ⊎_elim
-    (λ (model : IsAnswered old.export c told new.export × HasRoom old c). after_answer old.export new.export c told calls proper model.0 after)
+    (λ (model : IsAnswered old.export c told new.export × HasEntryRoom old c). after_answer old.export new.export c told calls proper model.0 after)
     (λ (want : IsSome (entry_of c) × (told ≡ NoMemory) × (new.export ≡ old.export)).
-    subst (λ (x : Reply). IsAfter new.export (calls_after x c calls)) (sym want.1) (after_want old.export new.export c calls want.2 after))
+    subst (λ (x : Reply). IsExportAfter new.export (calls_after x c calls)) (sym want.1) (after_want old.export new.export c calls want.2 after))
     is.1
 calls_answer old new c (answer.Full need have) proper is = tt
 calls_answer old new c answer.DiskFault proper is = tt
@@ -244,8 +244,8 @@ row_same c row (d, at, is) e there =
     subst (λ (x : Entry). length row ≡ row_length x) same (omega (arith, long))
 
 -- where its number is the same, the half that counted still counts
-pub same_half : (tells : Bool) (text : List ℕ) (image : List ℕ → Type 0) (half used : ℕ) (s : Export) → IsReady tells text image half used s
-    → (new : List ℕ) (left : List ℕ → Type 0) (side count : ℕ) (u : Export) → IsReady tells new left side count u → side ≡ half → IsTrue tells → IsSameHalf text new
+pub same_half : (tells : Bool) (text : List ℕ) (image : List ℕ → Type 0) (half used : ℕ) (s : Export) → IsJournalReady tells text image half used s
+    → (new : List ℕ) (left : List ℕ → Type 0) (side count : ℕ) (u : Export) → IsJournalReady tells new left side count u → side ≡ half → IsTrue tells → IsSameHalf text new
 same_half tells text image half used s ready new left side count u after same told k is =
     let held = ready.is_open.holds told in
     let now = after.is_open.holds told in

@@ -3,7 +3,7 @@ use Rattle.std.proofs.Common.{◌≡◌, ◌≢◌, ℕ, ◌+◌, ◌%◌, ◌<�
 use Rattle.rz_disk.specs.Images.{window}
 use Rattle.rz_disk.proofs.Images.{window-byte}
 use Rattle.rz_journal.specs.Row.{taken}
-use Rattle.rz_journal.specs.Stands.{disk_bytes, half_bytes, half_at, header_bytes, IsJournal, IsShut, IsOpen}
+use Rattle.rz_journal.specs.Stands.{disk_bytes, half_bytes, half_at, header_bytes, IsJournal, IsShut, IsHalfOpen}
 use Rattle.rz_journal.specs.HalfOpening.{IsHalf, HoldsSoFar}
 use Rattle.rz_journal.proofs.Changes.{size_is}
 use Rattle.rz_journal.proofs.Halves.{ends_moved}
@@ -35,7 +35,7 @@ module _ (text front gates : List ℕ) (is_gates : gates ≡ window 32 2 text) w
   }
 
 -- the entries of the half are those of the disk
-pub open_there : (tells : Bool) (text : List ℕ) (image : List ℕ → Type 0) (half used : ℕ) (bytes : List ℕ) → IsHalf tells text image half bytes → used < 8_388_576 → HoldsSoFar bytes used → IsOpen tells text image half used
+pub open_there : (tells : Bool) (text : List ℕ) (image : List ℕ → Type 0) (half used : ℕ) (bytes : List ℕ) → IsHalf tells text image half bytes → used < 8_388_576 → HoldsSoFar bytes used → IsHalfOpen tells text image half used
 open_there tells text image half used bytes is room found = record {
   size = is.size;
   settled = is.settled;

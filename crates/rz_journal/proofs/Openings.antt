@@ -24,8 +24,8 @@ use Rattle.rz_journal.specs.declared.rebuilding.ReopenProgress.{ReopenProgress}
 use Rattle.rz_journal.specs.declared.rebuilding.ReopenProgress.TheVariants.{Empty, Counters, Parts, Calls}
 use Rattle.rz_journal.specs.Said.{call_said, accepts}
 use Rattle.rz_journal.specs.JournalText.{IsAccepted, BeginsWith, Makes}
-use Rattle.rz_journal.specs.Listed.{IsStep, SoFar}
-use Rattle.rz_journal.specs.Opening.{said_by, said_by_all, made_by, AreNoneOrAll, EndWell, PartGoes, CallGoes, Goes, AllGo, IsAt, ArePartsSoFar, IsStage, after_part, IsSomeStage, TellsEnd, TellsPart, IsAdded, IsRebuilt, IsWrong, IsDamagedAt}
+use Rattle.rz_journal.specs.Listed.{IsEntryFound, SoFar}
+use Rattle.rz_journal.specs.Opening.{said_by, said_by_all, made_by, AreNoneOrAll, EndWell, PartGoes, CallGoes, MayFollowEntries, AllGo, HasPartsSoFar, ArePartsSoFar, IsProgress, after_part, IsSomeStage, TellsEnd, TellsPart, IsAdded, MakeExport, IsWrong, IsDamagedAt}
 use Rattle.rz_journal.proofs.Listings.{none_so_far, one_more, next_is}
 use Rattle.rz_journal.proofs.Makings.{after_more, accepted_more, said_more}
 
@@ -121,7 +121,7 @@ ended_makes volume before stage s so well = record {
   made = refl;
 }
 
-pub stage_makes : (volume : Volume) (before : List Said) (stage : ReopenProgress) (s : Export) → IsStage volume before stage s → EndWell volume before → Makes volume before s
+pub stage_makes : (volume : Volume) (before : List Said) (stage : ReopenProgress) (s : Export) → IsProgress volume before stage s → EndWell volume before → Makes volume before s
 stage_makes volume before Empty s so well = ended_makes volume before Empty s so well
 stage_makes volume before Counters s so well = ended_makes volume before Counters s so well
 stage_makes volume before Parts s so well = ended_makes volume before Parts s so well
@@ -130,14 +130,14 @@ stage_makes volume before Calls s so well = so.makes
 parts_made : (volume : Volume) (before : List Said) (stage : ReopenProgress) (s : Export) → ArePartsSoFar volume before stage s → s ≡ made_by volume before
 parts_made volume before stage s so = so.made ∙ sym (said_parts (new_export volume 0) so.parts) ∙ ap (made_by volume) (sym so.are)
 
-pub stage_made : (volume : Volume) (before : List Said) (stage : ReopenProgress) (s : Export) → IsStage volume before stage s → s ≡ made_by volume before
+pub stage_made : (volume : Volume) (before : List Said) (stage : ReopenProgress) (s : Export) → IsProgress volume before stage s → s ≡ made_by volume before
 stage_made volume before Empty s so = parts_made volume before Empty s so
 stage_made volume before Counters s so = parts_made volume before Counters s so
 stage_made volume before Parts s so = parts_made volume before Parts s so
 stage_made volume before Calls s so = so.made
 
 -- nothing stands so far
-pub none_stand : (volume : Volume) (s : Export) → s ≡ new_export volume 0 → IsStage volume [] Empty s
+pub none_stand : (volume : Volume) (s : Export) → s ≡ new_export volume 0 → IsProgress volume [] Empty s
 none_stand volume s made = record { parts = []; are = refl; each = tt; made = made; at = refl }
 
 -- ---- whether the parts so far end well
@@ -222,7 +222,7 @@ parts_add volume before stage s p so goes =
     let all = all-add volume (so.parts ++ p ∷ []) (follow_more volume [] so.parts p so.each (goes_is volume before stage s p so goes)) in
     subst (λ (x : Export). MayAdd x p) (sym so.made) (add_last (new_export volume 0) so.parts p all)
 
-add_there : (volume : Volume) (before : List Said) (stage : ReopenProgress) (s : Export) (p : Part) → IsStage volume before stage s → PartGoes volume before p → MayAdd s p
+add_there : (volume : Volume) (before : List Said) (stage : ReopenProgress) (s : Export) (p : Part) → IsProgress volume before stage s → PartGoes volume before p → MayAdd s p
 add_there volume before Empty s p so goes = parts_add volume before Empty s p so goes
 add_there volume before Counters s p so goes = parts_add volume before Counters s p so goes
 add_there volume before Parts s p so goes = parts_add volume before Parts s p so goes
@@ -231,13 +231,13 @@ add_there volume before Calls s p so goes = absurd (so.past goes.0 goes.1)
 pub may_add : (stage : ReopenProgress) (s : Export) (p : Part) → IsSomeStage stage s → TellsPart stage s p true → MayAdd s p
 may_add stage s p some tells = add_there some.0 some.1 stage s p some.2 ((tells some.0 some.1 some.2).0 refl)
 
-parts_more : (volume : Volume) (before : List Said) (stage later : ReopenProgress) (s u : Export) (p : Part) (so : ArePartsSoFar volume before stage s) → PartGoes volume before p → u ≡ with_part s p → IsAt later (length so.parts + 1) → ArePartsSoFar volume (before ++ entry.Built p ∷ []) later u
+parts_more : (volume : Volume) (before : List Said) (stage later : ReopenProgress) (s u : Export) (p : Part) (so : ArePartsSoFar volume before stage s) → PartGoes volume before p → u ≡ with_part s p → HasPartsSoFar later (length so.parts + 1) → ArePartsSoFar volume (before ++ entry.Built p ∷ []) later u
 parts_more volume before stage later s u p so goes made at = record {
   parts = so.parts ++ p ∷ [];
   are = ap (λ (es : List Said). es ++ entry.Built p ∷ []) so.are ∙ sym (map_more so.parts p);
   each = follow_more volume [] so.parts p so.each (goes_is volume before stage s p so goes);
   made = made ∙ ap (λ (x : Export). with_part x p) so.made ∙ sym (made-more (new_export volume 0) so.parts p);
-  at = subst (IsAt later) (sym (length_more so.parts p)) at;
+  at = subst (HasPartsSoFar later) (sym (length_more so.parts p)) at;
 }
 
 pub part_added : (stage : ReopenProgress) (s u : Export) (p : Part) → TellsPart stage s p true → u ≡ with_part s p → IsAdded (entry.Built p) stage s true (after_part stage) u
@@ -257,14 +257,14 @@ part_stops stage s p later u tells volume before so goes = (let wrong : false �
 
 -- ---- a call more
 
-pub call_goes : (volume : Volume) (before : List Said) (e : Said) (c : Call) → call_said e ≡ Some c → CallGoes volume before (Some c) → Goes volume before e
+pub call_goes : (volume : Volume) (before : List Said) (e : Said) (c : Call) → call_said e ≡ Some c → CallGoes volume before (Some c) → MayFollowEntries volume before e
 call_goes volume before (entry.Tree t) c said goes = subst (CallGoes volume before) (sym said) goes
 call_goes volume before (entry.Begin key bytes) c said goes = subst (CallGoes volume before) (sym said) goes
 call_goes volume before (entry.Publish key stamp mask bytes) c said goes = subst (CallGoes volume before) (sym said) goes
 call_goes volume before (entry.Enroll node loss) c said goes = subst (CallGoes volume before) (sym said) goes
 call_goes volume before (entry.Built p) c said goes = absurd (cc)
 
-goes_call : (volume : Volume) (before : List Said) (e : Said) (c : Call) → call_said e ≡ Some c → Goes volume before e → CallGoes volume before (Some c)
+goes_call : (volume : Volume) (before : List Said) (e : Said) (c : Call) → call_said e ≡ Some c → MayFollowEntries volume before e → CallGoes volume before (Some c)
 goes_call volume before (entry.Tree t) c said goes = subst (CallGoes volume before) said goes
 goes_call volume before (entry.Begin key bytes) c said goes = subst (CallGoes volume before) said goes
 goes_call volume before (entry.Publish key stamp mask bytes) c said goes = subst (CallGoes volume before) said goes
@@ -324,15 +324,15 @@ pub record GoSoFar (volume : Volume) (half : List ℕ) (at count : ℕ) (stage :
   pub before : List Said
   pub so_far : SoFar half before at
   pub go : AllGo volume [] before
-  pub stands : IsStage volume before stage s
+  pub stands : IsProgress volume before stage s
   pub number : count ≡ length before
   pub inside : at < length half
   pub few : count ≤ at
 
-go_more : (volume : Volume) (before es : List Said) (e : Said) → AllGo volume before es → Goes volume (before ++ es) e → AllGo volume before (es ++ e ∷ [])
-go_more volume before [] e all goes = (subst (λ (l : List Said). Goes volume l e) (append-nil before) goes, tt)
+go_more : (volume : Volume) (before es : List Said) (e : Said) → AllGo volume before es → MayFollowEntries volume (before ++ es) e → AllGo volume before (es ++ e ∷ [])
+go_more volume before [] e all goes = (subst (λ (l : List Said). MayFollowEntries volume l e) (append-nil before) goes, tt)
 go_more volume before (x ∷ es) e all goes =
-    (all.0, go_more volume (before ++ x ∷ []) es e all.1 (subst (λ (l : List Said). Goes volume l e) (sym (append_assoc before (x ∷ []) es)) goes))
+    (all.0, go_more volume (before ++ x ∷ []) es e all.1 (subst (λ (l : List Said). MayFollowEntries volume l e) (sym (append_assoc before (x ∷ []) es)) goes))
 
 count_more : (es : List Said) (e : Said) → length (es ++ e ∷ []) ≡ length es + 1
 count_more [] e = refl
@@ -349,15 +349,15 @@ go_first volume half s some made = record {
   few = omega arith;
 }
 
-module _ (volume : Volume) (half : List ℕ) (at count : ℕ) (stage : ReopenProgress) (s : Export) (so : GoSoFar volume half at count stage s) (step : EntryFound) (stands : IsStep half at step) where
+module _ (volume : Volume) (half : List ℕ) (at count : ℕ) (stage : ReopenProgress) (s : Export) (so : GoSoFar volume half at count stage s) (step : EntryFound) (stands : IsEntryFound half at step) where
   stop : IsWrong volume half so.before at → IsDamagedAt volume half count
   stop wrong = record { before = so.before; used = at; so_far = so.so_far; go = so.go; wrong = wrong; count = so.number }
 
-  pub go_end : step ≡ End → TellsEnd stage s true → IsRebuilt volume half at s
+  pub go_end : step ≡ End → TellsEnd stage s true → MakeExport volume half at s
   go_end is tells = record {
     entries = so.before;
     so_far = so.so_far;
-    ends = subst (IsStep half at) is stands;
+    ends = subst (IsEntryFound half at) is stands;
     go = so.go;
     well = (tells volume so.before so.stands).0 refl;
     made = stage_made volume so.before stage s so.stands;
@@ -365,18 +365,18 @@ module _ (volume : Volume) (half : List ℕ) (at count : ℕ) (stage : ReopenPro
   }
 
   pub go_badly : step ≡ End → TellsEnd stage s false → IsDamagedAt volume half count
-  go_badly is tells = stop (inr (inr (subst (IsStep half at) is stands, λ well. (let wrong : false ≡ true = (tells volume so.before so.stands).1 well in absurd (cc)))))
+  go_badly is tells = stop (inr (inr (subst (IsEntryFound half at) is stands, λ well. (let wrong : false ≡ true = (tells volume so.before so.stands).1 well in absurd (cc)))))
 
   pub go_damaged : step ≡ Damaged → IsDamagedAt volume half count
-  go_damaged is = stop (inl (subst (IsStep half at) is stands))
+  go_damaged is = stop (inl (subst (IsEntryFound half at) is stands))
 
   module _ (e : Said) (next : ℕ) (is : step ≡ Entry e next) (later : ReopenProgress) (u : Export) where
     pub go_stop : IsAdded e stage s false later u → IsDamagedAt volume half count
-    go_stop added = stop (inr (inl (e, next, subst (IsStep half at) is stands, added volume so.before so.stands)))
+    go_stop added = stop (inr (inl (e, next, subst (IsEntryFound half at) is stands, added volume so.before so.stands)))
 
     pub go_on : IsAdded e stage s true later u → GoSoFar volume half next (count + 1) later u
     go_on added =
-        let here : IsStep half at (Entry e next) = subst (IsStep half at) is stands in
+        let here : IsEntryFound half at (Entry e next) = subst (IsEntryFound half at) is stands in
         let number = so.number in
         let few = so.few in
         let behind = next_is half at step e next is stands in

@@ -10,7 +10,7 @@ use Rattle.rz_journal_text.proofs.EntryLaws.{one_entry}
 use Rattle.rz_journal.specs.declared.half_opening.OpenFault.{OpenFault}
 use Rattle.rz_journal.specs.declared.half_opening.OpenFault.TheVariants as half
 use Rattle.rz_journal.specs.Row.{Entries, taken, EndsAt}
-use Rattle.rz_journal.specs.Stands.{half_bytes, half_at, IsJournal, IsOpen}
+use Rattle.rz_journal.specs.Stands.{half_bytes, half_at, IsJournal, IsHalfOpen}
 use Rattle.rz_journal.specs.HalfOpening.{IsHalf, Refuses, HoldsSoFar}
 use Rattle.rz_journal.proofs.Changes.{size_is}
 use Rattle.rz_journal.proofs.Opened.{half_size_is}
@@ -21,14 +21,14 @@ use Rattle.rz_journal.specs.declared.rebuilding.JournalFault.TheVariants.{NoMemo
 use Rattle.rz_journal.specs.JournalText.{AreAccepted, after_all, BeginsWith, AreSpelled, Makes, Keeps, IsTextOf}
 use Rattle.rz_journal.specs.Listed.{SoFar}
 use Rattle.rz_journal.specs.Said.{call_said}
-use Rattle.rz_journal.specs.Kept.{IsReady, IsAfter}
+use Rattle.rz_journal.specs.Kept.{IsJournalReady, IsExportAfter}
 use Rattle.rz_export.specs.Building.{made_of}
 use Rattle.rz_export_laws.specs.Whole.{IsWhole}
 use Rattle.rz_tree.specs.declared.parts.Part.{Part}
 use Rattle.rz_events.specs.declared.export.Call.{Call}
 use Rattle.rz_journal.proofs.Openings.{part_volume, said_parts, said_call}
 use Rattle.rz_journal.proofs.Refused.{volume_same}
-use Rattle.rz_journal.specs.Opening.{said_by, said_by_all, made_by, IsRebuilt, IsStopped, IsDamagedAt, IsReopened, IsRefused, fault_of}
+use Rattle.rz_journal.specs.Opening.{said_by, said_by_all, made_by, MakeExport, StopsAtEntry, IsDamagedAt, IsReopened, IsJournalRefused, fault_of}
 
 -- the rows of the entries of a half, with the end behind them
 so_far_ends : (half : List ℕ) (entries : List Said) (used : ℕ) (so : SoFar half entries used) → get_or half used 0 % 2 ≡ 0 → EndsAt 0 so.0 half
@@ -36,7 +36,7 @@ so_far_ends half entries used so ends =
     let place : used ≡ 0 + taken so.0 = (let is = so.3 in omega (arith, is)) in
     record { row = so.1; shut = subst (λ (k : ℕ). get_or half k 0 % 2 ≡ 0) place ends }
 
-pub holds_there : (volume : Volume) (half : List ℕ) (used : ℕ) (s : Export) → IsRebuilt volume half used s → HoldsSoFar half used
+pub holds_there : (volume : Volume) (half : List ℕ) (used : ℕ) (s : Export) → MakeExport volume half used s → HoldsSoFar half used
 holds_there volume half used s is = (is.so_far.0, so_far_ends half is.entries used is.so_far is.ends, is.so_far.3)
 
 pub small_there : (half : ℕ) (text : List ℕ) → IsJournal half text → half < 2
@@ -66,8 +66,8 @@ keeps_there volume text used s re room =
     }
 
 module _ (tells : Bool) (text : List ℕ) (image : List ℕ → Type 0) (half : ℕ) (bytes : List ℕ) (is : IsHalf tells text image half bytes) (volume : Volume) where
-  pub reopened : (used : ℕ) (s : Export) → IsRebuilt volume bytes used s → IsTrue tells → IsReopened volume text used s
-  reopened used s r told = record { half = half; journal = is.picked.1 told; rebuilt = subst (λ (b : List ℕ). IsRebuilt volume b used s) (is.same told) r }
+  pub reopened : (used : ℕ) (s : Export) → MakeExport volume bytes used s → IsTrue tells → IsReopened volume text used s
+  reopened used s r told = record { half = half; journal = is.picked.1 told; rebuilt = subst (λ (b : List ℕ). MakeExport volume b used s) (is.same told) r }
 
   pub room_there : (used : ℕ) → used < length bytes → used < 8_388_576
   room_there used inside = let all = is.all in omega (arith, inside, all, half_size_is)
@@ -75,7 +75,7 @@ module _ (tells : Bool) (text : List ℕ) (image : List ℕ → Type 0) (half : 
   pub some_there : 1 ≤ length bytes
   some_there = let all = is.all in omega (arith, all, half_size_is)
 
-  pub stopped : (fault : JournalFault) → IsStopped volume bytes fault → IsRefused tells volume text fault
+  pub stopped : (fault : JournalFault) → StopsAtEntry volume bytes fault → IsJournalRefused tells volume text fault
   stopped NoMemory why = tt
   stopped (WrongSize have need) why = absurd why
   stopped DiskFault why = absurd why
@@ -83,7 +83,7 @@ module _ (tells : Bool) (text : List ℕ) (image : List ℕ → Type 0) (half : 
   stopped BadHeader why = absurd why
   stopped (Damaged number) why = (is.size, λ told. (half, is.picked.1 told, subst (λ (b : List ℕ). IsDamagedAt volume b number) (is.same told) why))
 
-pub refused : (tells : Bool) (volume : Volume) (text : List ℕ) (fault : OpenFault) → Refuses tells text fault → IsRefused tells volume text (fault_of fault)
+pub refused : (tells : Bool) (volume : Volume) (text : List ℕ) (fault : OpenFault) → Refuses tells text fault → IsJournalRefused tells volume text (fault_of fault)
 refused tells volume text half.NoMemory why = why
 refused tells volume text (half.WrongSize have need) why = why
 refused tells volume text half.DiskFault why = why
@@ -98,8 +98,8 @@ disk_fault half.DiskFault is = refl
 disk_fault half.Unformatted is = absurd (cc)
 disk_fault half.BadHeader is = absurd (cc)
 
-pub no_disk_fault : (volume : Volume) (half : List ℕ) (fault : JournalFault) → IsStopped volume half fault → fault ≡ DiskFault → ⊥
-no_disk_fault volume half fault why is = subst (IsStopped volume half) is why
+pub no_disk_fault : (volume : Volume) (half : List ℕ) (fault : JournalFault) → StopsAtEntry volume half fault → fault ≡ DiskFault → ⊥
+no_disk_fault volume half fault why is = subst (StopsAtEntry volume half) is why
 
 -- ---- the volume
 
@@ -114,11 +114,11 @@ all_volume : (s : Export) (es : List Said) → (said_by_all s es).volume ≡ s.v
 all_volume s [] = refl
 all_volume s (e ∷ es) = all_volume (said_by s e) es ∙ said_volume s e
 
-pub rebuilt_volume : (volume : Volume) (half : List ℕ) (used : ℕ) (s : Export) → IsRebuilt volume half used s → s.volume ≡ volume
+pub rebuilt_volume : (volume : Volume) (half : List ℕ) (used : ℕ) (s : Export) → MakeExport volume half used s → s.volume ≡ volume
 rebuilt_volume volume half used s is = ap (λ (x : Export). x.volume) is.made ∙ all_volume (new_export volume 0) is.entries
 
 -- the journal that is opened again keeps its export
-pub ready_there : (tells : Bool) (text : List ℕ) (image : List ℕ → Type 0) (half used : ℕ) (s : Export) (volume : Volume) → IsOpen tells text image half used → s.volume ≡ volume → (IsTrue tells → IsReopened volume text used s) → IsWhole s → IsReady tells text image half used s
+pub ready_there : (tells : Bool) (text : List ℕ) (image : List ℕ → Type 0) (half used : ℕ) (s : Export) (volume : Volume) → IsHalfOpen tells text image half used → s.volume ≡ volume → (IsTrue tells → IsReopened volume text used s) → IsWhole s → IsJournalReady tells text image half used s
 ready_there tells text image half used s volume is_open same re whole = record {
   is_open = is_open;
   keeps = λ told. subst (λ (v : Volume). Keeps v text s) (sym same) (keeps_there volume text used s (re told) is_open.room);
@@ -169,7 +169,7 @@ same_kept volume text s u one other =
     makes_made volume one.entries s one.makes ∙ ap (made_by volume) entries ∙ sym (makes_made volume other.entries u other.makes)
 
 -- the calls for which the text stands give the export
-pub after_calls : (volume : Volume) (text : List ℕ) (used : ℕ) (s : Export) → s.volume ≡ volume → used < 8_388_576 → IsReopened volume text used s → (calls : List Call) → IsTextOf volume text calls → IsAfter s calls
+pub after_calls : (volume : Volume) (text : List ℕ) (used : ℕ) (s : Export) → s.volume ≡ volume → used < 8_388_576 → IsReopened volume text used s → (calls : List Call) → IsTextOf volume text calls → IsExportAfter s calls
 after_calls volume text used s same room re calls is =
     let made = same_kept volume text s (after_all (new_export volume 0) calls) (keeps_there volume text used s re room) is.keeps in
     record {

@@ -4,14 +4,14 @@ use Rattle.rz_events.specs.declared.export.Call.{Call}
 use Rattle.rz_export_model.specs.Export.{Export, new_export, export_after}
 use Rattle.rz_export_laws.specs.Whole.{IsWhole}
 use Rattle.rz_journal_text.specs.declared.entry.Entry.{Entry}
-use Rattle.rz_journal.specs.Stands.{IsOpen}
+use Rattle.rz_journal.specs.Stands.{IsHalfOpen}
 use Rattle.rz_journal.specs.Said.{entry_of}
 use Rattle.rz_journal.specs.JournalText.{IsAccepted, AreAccepted, after_all, Keeps, IsTextOf}
 use Rattle.rz_journal.specs.Room.{IsRow}
 
 -- The disk is open, its text keeps the export, and parts make the export again.
-pub record IsReady (tells : Bool) (text : List ℕ) (image : List ℕ → Type 0) (half used : ℕ) (s : Export) : Type 0 where
-  pub is_open : IsOpen tells text image half used
+pub record IsJournalReady (tells : Bool) (text : List ℕ) (image : List ℕ → Type 0) (half used : ℕ) (s : Export) : Type 0 where
+  pub is_open : IsHalfOpen tells text image half used
   pub keeps : IsTrue tells → Keeps s.volume text s
   pub whole : IsWhole s
 
@@ -31,7 +31,7 @@ abbrev pub IsRowOf : Call → List ℕ → Type 0
 IsRowOf c row = (e : Entry) × (entry_of c ≡ Some e) × IsRow (e ∷ []) row
 
 -- A new store accepted these calls, and this is the export after them.
-pub record IsAfter (s : Export) (calls : List Call) : Type 0 where
+pub record IsExportAfter (s : Export) (calls : List Call) : Type 0 where
   pub accepted : AreAccepted (new_export s.volume 0) calls
   pub made : s ≡ after_all (new_export s.volume 0) calls
 

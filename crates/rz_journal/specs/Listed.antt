@@ -19,10 +19,10 @@ pub record IsDamaged (half : List ℕ) (at : ℕ) : Type 0 where
   pub wrong : (length half ≤ at + (5 + length_at half at)) ⊎ ((e : Said) → ¬ Spells (window (at + 5) (length_at half at) half) e)
 
 -- what stands at an address: the end, an entry and the address behind it, or a damaged one
-abbrev pub IsStep : List ℕ → ℕ → EntryFound → Type 0
-IsStep half at End = slice_index half at % 2 ≡ 0
-IsStep half at (Entry e next) = (bytes : List ℕ) × IsEntryAt at bytes half × Spells bytes e × (next ≡ at + (5 + length bytes)) × (next < length half)
-IsStep half at Damaged = IsDamaged half at
+abbrev pub IsEntryFound : List ℕ → ℕ → EntryFound → Type 0
+IsEntryFound half at End = slice_index half at % 2 ≡ 0
+IsEntryFound half at (Entry e next) = (bytes : List ℕ) × IsEntryAt at bytes half × Spells bytes e × (next ≡ at + (5 + length bytes)) × (next < length half)
+IsEntryFound half at Damaged = IsDamaged half at
 
 -- the entries from the front on, which take so many bytes
 abbrev pub SoFar : List ℕ → List Said → ℕ → Type 0

@@ -20,7 +20,7 @@ use Rattle.rz_journal.specs.declared.rebuilding.JournalFault.{JournalFault}
 use Rattle.rz_journal.specs.declared.rebuilding.JournalFault.TheVariants.{NoMemory, WrongSize, DiskFault, Unformatted, BadHeader, Damaged}
 use Rattle.rz_journal.specs.Said.{call_said}
 use Rattle.rz_journal.specs.JournalText.{IsAccepted, Makes}
-use Rattle.rz_journal.specs.Listed.{IsDamaged, IsStep, SoFar}
+use Rattle.rz_journal.specs.Listed.{IsDamaged, IsEntryFound, SoFar}
 
 -- ---- the export that entries make
 
@@ -62,22 +62,22 @@ CallGoes volume before None = ⊥
 CallGoes volume before (Some c) = EndWell volume before × IsAccepted (made_by volume before) c
 
 -- whether an entry may stand behind those before it
-abbrev pub Goes : Volume → List Said → Said → Type 0
-Goes volume before (entry.Built p) = PartGoes volume before p
-Goes volume before (entry.Tree c) = CallGoes volume before (call_said (entry.Tree c))
-Goes volume before (entry.Begin key bytes) = CallGoes volume before (call_said (entry.Begin key bytes))
-Goes volume before (entry.Publish key stamp mask bytes) = CallGoes volume before (call_said (entry.Publish key stamp mask bytes))
-Goes volume before (entry.Enroll node loss) = CallGoes volume before (call_said (entry.Enroll node loss))
+abbrev pub MayFollowEntries : Volume → List Said → Said → Type 0
+MayFollowEntries volume before (entry.Built p) = PartGoes volume before p
+MayFollowEntries volume before (entry.Tree c) = CallGoes volume before (call_said (entry.Tree c))
+MayFollowEntries volume before (entry.Begin key bytes) = CallGoes volume before (call_said (entry.Begin key bytes))
+MayFollowEntries volume before (entry.Publish key stamp mask bytes) = CallGoes volume before (call_said (entry.Publish key stamp mask bytes))
+MayFollowEntries volume before (entry.Enroll node loss) = CallGoes volume before (call_said (entry.Enroll node loss))
 
 -- each of these entries may stand behind those before it
 abbrev pub AllGo : Volume → List Said → List Said → Type 0
 AllGo volume before [] = Unit {0}
-AllGo volume before (e ∷ es) = Goes volume before e × AllGo volume (before ++ e ∷ []) es
+AllGo volume before (e ∷ es) = MayFollowEntries volume before e × AllGo volume (before ++ e ∷ []) es
 
 -- ---- what a half holds
 
 -- The entries of a half make this export.
-pub record IsRebuilt (volume : Volume) (half : List ℕ) (used : ℕ) (s : Export) : Type 0 where
+pub record MakeExport (volume : Volume) (half : List ℕ) (used : ℕ) (s : Export) : Type 0 where
   pub entries : List Said
   pub so_far : SoFar half entries used
   pub ends : slice_index half used % 2 ≡ 0
@@ -90,7 +90,7 @@ pub record IsRebuilt (volume : Volume) (half : List ℕ) (used : ℕ) (s : Expor
 abbrev pub IsWrong : Volume → List ℕ → List Said → ℕ → Type 0
 IsWrong volume half before used =
     IsDamaged half used
-    ⊎ ((e : Said) × (next : ℕ) × IsStep half used (Entry e next) × ¬ Goes volume before e)
+    ⊎ ((e : Said) × (next : ℕ) × IsEntryFound half used (Entry e next) × ¬ MayFollowEntries volume before e)
     ⊎ ((slice_index half used % 2 ≡ 0) × ¬ EndWell volume before)
 
 -- The entries before this number go, and there something is wrong.
@@ -103,10 +103,10 @@ pub record IsDamagedAt (volume : Volume) (half : List ℕ) (number : ℕ) : Type
   pub count : number ≡ length before
 
 -- why the entries of a half make no export
-abbrev pub IsStopped : Volume → List ℕ → JournalFault → Type 0
-IsStopped volume half NoMemory = Unit {0}
-IsStopped volume half (Damaged number) = IsDamagedAt volume half number
-IsStopped volume half _ = ⊥
+abbrev pub StopsAtEntry : Volume → List ℕ → JournalFault → Type 0
+StopsAtEntry volume half NoMemory = Unit {0}
+StopsAtEntry volume half (Damaged number) = IsDamagedAt volume half number
+StopsAtEntry volume half _ = ⊥
 
 -- ---- what a text holds
 
@@ -114,20 +114,20 @@ IsStopped volume half _ = ⊥
 pub record IsReopened (volume : Volume) (text : List ℕ) (used : ℕ) (s : Export) : Type 0 where
   pub half : ℕ
   pub journal : IsJournal half text
-  pub rebuilt : IsRebuilt volume (window (half_at half) half_bytes text) used s
+  pub rebuilt : MakeExport volume (window (half_at half) half_bytes text) used s
 
 -- the first damaged entry of the half that a text picks
 abbrev pub HasDamagedAt : Volume → List ℕ → ℕ → Type 0
 HasDamagedAt volume text number = (half : ℕ) × IsJournal half text × IsDamagedAt volume (window (half_at half) half_bytes text) number
 
 -- each fault is the first of these that a text has; a text is looked at only where it has the right size
-abbrev pub IsRefused : Bool → Volume → List ℕ → JournalFault → Type 0
-IsRefused tells volume text NoMemory = Refuses tells text half.NoMemory
-IsRefused tells volume text (WrongSize have need) = Refuses tells text (half.WrongSize have need)
-IsRefused tells volume text DiskFault = Refuses tells text half.DiskFault
-IsRefused tells volume text Unformatted = Refuses tells text half.Unformatted
-IsRefused tells volume text BadHeader = Refuses tells text half.BadHeader
-IsRefused tells volume text (Damaged number) = (length text ≡ disk_bytes) × (IsTrue tells → HasDamagedAt volume text number)
+abbrev pub IsJournalRefused : Bool → Volume → List ℕ → JournalFault → Type 0
+IsJournalRefused tells volume text NoMemory = Refuses tells text half.NoMemory
+IsJournalRefused tells volume text (WrongSize have need) = Refuses tells text (half.WrongSize have need)
+IsJournalRefused tells volume text DiskFault = Refuses tells text half.DiskFault
+IsJournalRefused tells volume text Unformatted = Refuses tells text half.Unformatted
+IsJournalRefused tells volume text BadHeader = Refuses tells text half.BadHeader
+IsJournalRefused tells volume text (Damaged number) = (length text ≡ disk_bytes) × (IsTrue tells → HasDamagedAt volume text number)
 
 -- the fault of a disk as one of its journal
 abbrev pub fault_of : OpenFault → JournalFault
@@ -140,11 +140,11 @@ fault_of half.BadHeader = BadHeader
 -- ---- what is known while the entries are read
 
 -- how many parts stand so far
-abbrev pub IsAt : ReopenProgress → ℕ → Type 0
-IsAt Empty count = count ≡ 0
-IsAt Counters count = count ≡ 1
-IsAt Parts count = 2 ≤ count
-IsAt Calls count = ⊥
+abbrev pub HasPartsSoFar : ReopenProgress → ℕ → Type 0
+HasPartsSoFar Empty count = count ≡ 0
+HasPartsSoFar Counters count = count ≡ 1
+HasPartsSoFar Parts count = 2 ≤ count
+HasPartsSoFar Calls count = ⊥
 
 -- The entries so far are parts alone.
 pub record ArePartsSoFar (volume : Volume) (entries : List Said) (stage : ReopenProgress) (s : Export) : Type 0 where
@@ -152,7 +152,7 @@ pub record ArePartsSoFar (volume : Volume) (entries : List Said) (stage : Reopen
   pub are : entries ≡ map entry.Built parts
   pub each : AllFollow volume [] parts
   pub made : s ≡ made_of volume parts
-  pub at : IsAt stage (length parts)
+  pub at : HasPartsSoFar stage (length parts)
 
 -- The entries so far end with a call.
 pub record AreCallsSoFar (volume : Volume) (entries : List Said) (s : Export) : Type 0 where
@@ -161,11 +161,11 @@ pub record AreCallsSoFar (volume : Volume) (entries : List Said) (s : Export) : 
   pub past : (parts : List Part) → entries ≢ map entry.Built parts
 
 -- what the entries so far are, and the export that they make
-abbrev pub IsStage : Volume → List Said → ReopenProgress → Export → Type 0
-IsStage volume entries Empty s = ArePartsSoFar volume entries Empty s
-IsStage volume entries Counters s = ArePartsSoFar volume entries Counters s
-IsStage volume entries Parts s = ArePartsSoFar volume entries Parts s
-IsStage volume entries Calls s = AreCallsSoFar volume entries s
+abbrev pub IsProgress : Volume → List Said → ReopenProgress → Export → Type 0
+IsProgress volume entries Empty s = ArePartsSoFar volume entries Empty s
+IsProgress volume entries Counters s = ArePartsSoFar volume entries Counters s
+IsProgress volume entries Parts s = ArePartsSoFar volume entries Parts s
+IsProgress volume entries Calls s = AreCallsSoFar volume entries s
 
 -- the stage behind a part more
 abbrev pub after_part : ReopenProgress → ReopenProgress
@@ -176,18 +176,18 @@ after_part Calls = Parts
 
 -- some entries are at this stage
 abbrev pub IsSomeStage : ReopenProgress → Export → Type 0
-IsSomeStage stage s = (volume : Volume) × (before : List Said) × IsStage volume before stage s
+IsSomeStage stage s = (volume : Volume) × (before : List Said) × IsProgress volume before stage s
 
 -- whether the parts so far end well
 abbrev pub TellsEnd : ReopenProgress → Export → Bool → Type 0
-TellsEnd stage s well = (volume : Volume) (before : List Said) → IsStage volume before stage s → IsTrue well ↔ EndWell volume before
+TellsEnd stage s well = (volume : Volume) (before : List Said) → IsProgress volume before stage s → IsTrue well ↔ EndWell volume before
 
 -- whether a part may stand behind the entries so far
 abbrev pub TellsPart : ReopenProgress → Export → Part → Bool → Type 0
-TellsPart stage s p goes = (volume : Volume) (before : List Said) → IsStage volume before stage s → IsTrue goes ↔ PartGoes volume before p
+TellsPart stage s p goes = (volume : Volume) (before : List Said) → IsProgress volume before stage s → IsTrue goes ↔ PartGoes volume before p
 
 -- an entry was added where it may stand behind the entries so far
 abbrev pub IsAdded : Said → ReopenProgress → Export → Bool → ReopenProgress → Export → Type 0
 IsAdded e stage s true later u =
-    (volume : Volume) (before : List Said) → IsStage volume before stage s → Goes volume before e × IsStage volume (before ++ e ∷ []) later u
-IsAdded e stage s false later u = (volume : Volume) (before : List Said) → IsStage volume before stage s → ¬ Goes volume before e
+    (volume : Volume) (before : List Said) → IsProgress volume before stage s → MayFollowEntries volume before e × IsProgress volume (before ++ e ∷ []) later u
+IsAdded e stage s false later u = (volume : Volume) (before : List Said) → IsProgress volume before stage s → ¬ MayFollowEntries volume before e

@@ -27,13 +27,13 @@ view_code {D = D} disk =
     (λ v. (v.disk, (v.used, (v.export, v.closed)))) (λ p. record { disk = p.0; used = p.1.0; export = p.1.1.0; closed = p.1.1.1 }) (λ _. refl)
 
 -- there is room for the entry of a call, if it has one
-abbrev pub HasRoom : {D : Type 0} → JournalView D → Call → Type 0
-HasRoom j c = (e : Entry) → entry_of c ≡ Some e → ¬ FitsNowhere j.export j.used (row_length e)
+abbrev pub HasEntryRoom : {D : Type 0} → JournalView D → Call → Type 0
+HasEntryRoom j c = (e : Entry) → entry_of c ≡ Some e → ¬ FitsNowhere j.export j.used (row_length e)
 
 -- the export's reply; or memory is wanting for the entry, and the export stays as it is
-abbrev pub IsReply : {D : Type 0} → JournalView D → Call → Reply → JournalView D → Type 0
-IsReply old c r new =
-    (IsAnswered old.export c r new.export × HasRoom old c) ⊎ (IsSome (entry_of c) × (r ≡ NoMemory) × (new.export ≡ old.export))
+abbrev pub IsJournalReply : {D : Type 0} → JournalView D → Call → Reply → JournalView D → Type 0
+IsJournalReply old c r new =
+    (IsAnswered old.export c r new.export × HasEntryRoom old c) ⊎ (IsSome (entry_of c) × (r ≡ NoMemory) × (new.export ≡ old.export))
 
 -- there is no room for the entry of a call, and these are the bytes that would be needed
 abbrev pub IsFull : {D : Type 0} → JournalView D → Call → ℕ → Type 0
@@ -41,9 +41,9 @@ IsFull j c need = (e : Entry) × (entry_of c ≡ Some e) × FitsNowhere j.export
 
 -- what an open journal answers
 abbrev pub IsOpenAnswer : {D : Type 0} → JournalView D → Call → JournalReply → JournalView D → Type 0
-IsOpenAnswer old c (answer.Reply r) new = (new.closed ≡ false) × IsReply old c r new
+IsOpenAnswer old c (answer.Reply r) new = (new.closed ≡ false) × IsJournalReply old c r new
 IsOpenAnswer old c (answer.Full need have) new = (new ≡ old) × IsFull old c need × (have ≡ 8_388_576)
-IsOpenAnswer old c answer.DiskFault new = (new.closed ≡ true) × IsSome (entry_of c) × HasRoom old c
+IsOpenAnswer old c answer.DiskFault new = (new.closed ≡ true) × IsSome (entry_of c) × HasEntryRoom old c
 IsOpenAnswer old c answer.Closed new = ⊥
 
 -- what a journal answers: a closed one says so, and stays as it is

@@ -27,7 +27,7 @@ pub record IsJournal (half : ℕ) (text : List ℕ) : Type 0 where
   pub picked : slice_index text 33 % 2 ≡ half
 
 -- That half holds these entries, and has room for the gate behind them.
-pub record Holds (half : ℕ) (entries : Entries) (text : List ℕ) : Type 0 where
+pub record HalfHolds (half : ℕ) (entries : Entries) (text : List ℕ) : Type 0 where
   pub journal : IsJournal half text
   pub ends : EndsAt (half_at half) entries text
   pub room : taken entries < 8_388_576
@@ -38,19 +38,19 @@ IsSameHalf old new = (half : ℕ) → IsJournal half old → IsJournal half new
 
 -- The text stands for a list of entries.
 abbrev pub StandsFor : List ℕ → Entries → Type 0
-StandsFor text entries = (half : ℕ) × Holds half entries text
+StandsFor text entries = (half : ℕ) × HalfHolds half entries text
 
 -- the header's gate is shut
 abbrev pub IsShut : List ℕ → Type 0
 IsShut text = slice_index text 32 % 2 ≡ 0
 
 -- What the disk reads is all on it, and it holds entries of so many bytes in this half.
-pub record IsOpen (tells : Bool) (text : List ℕ) (image : List ℕ → Type 0) (half used : ℕ) : Type 0 where
+pub record IsHalfOpen (tells : Bool) (text : List ℕ) (image : List ℕ → Type 0) (half used : ℕ) : Type 0 where
   pub size : length text ≡ disk_bytes
   pub settled : Only text image
   pub small : half < 2
   pub room : used < 8_388_576
-  pub holds : IsTrue tells → (entries : Entries) × Holds half entries text × (taken entries ≡ used)
+  pub holds : IsTrue tells → (entries : Entries) × HalfHolds half entries text × (taken entries ≡ used)
 
 -- Where a text stands for some entries, each image stands for them, or for these others.
 abbrev pub Either : (Entries → Entries) → List ℕ → (List ℕ → Type 0) → Type 0

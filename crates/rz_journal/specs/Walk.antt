@@ -5,7 +5,7 @@ use Rattle.rz_journal.specs.declared.walking.EntryPlace.{EntryPlace}
 use Rattle.rz_journal.specs.declared.walking.EntryPlace.TheVariants.{End, Entry, NoRoom}
 
 -- a shut gate; an entry behind an open one; or an open one whose entry leaves no room for the next gate
-abbrev pub IsPlace : List ℕ → ℕ → EntryPlace → Type 0
-IsPlace half at End = slice_index half at % 2 ≡ 0
-IsPlace half at (Entry count) = (slice_index half at % 2 ≡ 1) × (little_number 4 (drop (at + 1) half) ≡ count) × (at + (5 + count) < length half)
-IsPlace half at NoRoom = (slice_index half at % 2 ≡ 1) × (length half ≤ at + (5 + little_number 4 (drop (at + 1) half)))
+abbrev pub IsEntryPlace : List ℕ → ℕ → EntryPlace → Type 0
+IsEntryPlace half at End = slice_index half at % 2 ≡ 0
+IsEntryPlace half at (Entry count) = (slice_index half at % 2 ≡ 1) × (little_number 4 (drop (at + 1) half) ≡ count) × (at + (5 + count) < length half)
+IsEntryPlace half at NoRoom = (slice_index half at % 2 ≡ 1) × (length half ≤ at + (5 + little_number 4 (drop (at + 1) half)))

@@ -4,7 +4,7 @@ ghost use Rattle.std.specs.Prelude.{◌≡◌, ◌⊎◌, ◌+◌, ◌-◌, ◌*
 ghost use Rattle.rz_disk.specs.Images.{Only};
 ghost use Rattle.rz_disk.specs.Meter.{Took, Lasts, Rises, HasPasses, faults};
 ghost use Rattle.rz_journal.specs.Row.{Entries, taken, row_bytes};
-ghost use Rattle.rz_journal.specs.Stands.{disk_bytes, half_at, Holds, with_last};
+ghost use Rattle.rz_journal.specs.Stands.{disk_bytes, half_at, HalfHolds, with_last};
 
 use crate::shape::{HALF_GATE, half_at};
 use rz_disk::{Disk, Failed, store};
@@ -20,12 +20,12 @@ pub fn add<D: Disk>(disk: &mut D, at: u64, row: &[u8]) -> Result<(), Failed>
     // On every exit each image holds the entries from before, or these and the new one.
     ensures crash { IsTrue D.tells → (half : ℕ) (entries : Entries) (entry c : List ℕ) → row.now ≡ row_bytes (entry ∷ [])
         → at ≡ half_at half + taken entries → taken entries + (5 + length entry) < 8_388_576
-        → Holds half entries (D.text disk.old) → D.image disk.new c → Holds half entries c ⊎ Holds half (with_last entry entries) c }
+        → HalfHolds half entries (D.text disk.old) → D.image disk.new c → HalfHolds half entries c ⊎ HalfHolds half (with_last entry entries) c }
 
     // And then the text, which is the one image, holds these and the new one.
     ensures done { OnOk result (IsTrue D.tells → (half : ℕ) (entries : Entries) (entry : List ℕ) → row.now ≡ row_bytes (entry ∷ [])
         → at ≡ half_at half + taken entries → taken entries + (5 + length entry) < 8_388_576
-        → Holds half entries (D.text disk.old) → Holds half (with_last entry entries) (D.text disk.new)) }
+        → HalfHolds half entries (D.text disk.old) → HalfHolds half (with_last entry entries) (D.text disk.new)) }
     ensures size { length (D.text disk.new) ≡ length (D.text disk.old) }
     ensures settled { OnOk result (Only (D.text disk.new) (D.image disk.new)) }
 
@@ -49,11 +49,11 @@ pub fn replace<D: Disk>(disk: &mut D, half: u8, row: &[u8]) -> Result<(), Failed
 
     // On every exit each image holds the entries from before, or the new ones in the other half.
     ensures crash { IsTrue D.tells → (entries new : Entries) (c : List ℕ) → row.now ≡ row_bytes new → taken new < 8_388_576
-        → Holds half entries (D.text disk.old) → D.image disk.new c → Holds half entries c ⊎ Holds (1 - half) new c }
+        → HalfHolds half entries (D.text disk.old) → D.image disk.new c → HalfHolds half entries c ⊎ HalfHolds (1 - half) new c }
 
     // And then the text, which is the one image, holds the new ones.
     ensures done { OnOk result (IsTrue D.tells → (entries new : Entries) → row.now ≡ row_bytes new → taken new < 8_388_576
-        → Holds half entries (D.text disk.old) → Holds (1 - half) new (D.text disk.new)) }
+        → HalfHolds half entries (D.text disk.old) → HalfHolds (1 - half) new (D.text disk.new)) }
     ensures size { length (D.text disk.new) ≡ length (D.text disk.old) }
     ensures settled { OnOk result (Only (D.text disk.new) (D.image disk.new)) }
 

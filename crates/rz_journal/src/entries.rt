@@ -3,7 +3,7 @@
 ghost use Rattle.std.specs.Prelude.{◌≡◌, ◌↔◌, ◌+◌, ◌-◌, ◌<◌, ◌≤◌, ℕ, List, [], ◌∷◌, length, IsTrue, IsErr, OnOk};
 ghost use Rattle.rz_disk.specs.Meter.{Took, Lasts, Rises, HasPasses, faults};
 ghost use Rattle.rz_journal.specs.Row.{row_bytes};
-ghost use Rattle.rz_journal.specs.Stands.{IsOpen, Either, Becomes, with_last, instead};
+ghost use Rattle.rz_journal.specs.Stands.{IsHalfOpen, Either, Becomes, with_last, instead};
 
 use crate::changing::{add, replace};
 use crate::shape::{HALF_BYTES, half_at};
@@ -30,7 +30,7 @@ impl<D: Disk> Entries<D> {
 
     /// Adds an entry behind the others. `row` is this entry alone, with a shut gate behind it.
     pub fn append(&mut self, row: &[u8]) -> Result<(), Failed>
-        requires open { IsOpen D.tells (D.text self.old.disk) (D.image self.old.disk) self.old.half self.old.used }
+        requires open { IsHalfOpen D.tells (D.text self.old.disk) (D.image self.old.disk) self.old.half self.old.used }
         requires some { 1 ≤ length row.now }
         requires room { self.old.used + length row.now ≤ 8_388_576 }
 
@@ -42,7 +42,7 @@ impl<D: Disk> Entries<D> {
         ensures done { OnOk result (IsTrue D.tells → (entry : List ℕ) → row.now ≡ row_bytes (entry ∷ [])
             → Becomes (with_last entry) (D.text self.old.disk) (D.text self.new.disk)) }
         ensures open { OnOk result ((entry : List ℕ) → row.now ≡ row_bytes (entry ∷ [])
-            → IsOpen D.tells (D.text self.new.disk) (D.image self.new.disk) self.new.half self.new.used) }
+            → IsHalfOpen D.tells (D.text self.new.disk) (D.image self.new.disk) self.new.half self.new.used) }
         ensures size { length (D.text self.new.disk) ≡ length (D.text self.old.disk) }
         ensures half { self.new.half ≡ self.old.half }
         ensures used { OnOk result (self.new.used + 1 ≡ self.old.used + length row.now) }
@@ -61,7 +61,7 @@ impl<D: Disk> Entries<D> {
 
     /// Puts other entries in the place of all. `row` is these entries, with a shut gate behind the last.
     pub fn compact(&mut self, row: &[u8]) -> Result<(), Failed>
-        requires open { IsOpen D.tells (D.text self.old.disk) (D.image self.old.disk) self.old.half self.old.used }
+        requires open { IsHalfOpen D.tells (D.text self.old.disk) (D.image self.old.disk) self.old.half self.old.used }
         requires some { 1 ≤ length row.now }
         requires room { length row.now ≤ 8_388_576 }
 
@@ -73,7 +73,7 @@ impl<D: Disk> Entries<D> {
         ensures done { OnOk result (IsTrue D.tells → (new : List (List ℕ)) → row.now ≡ row_bytes new
             → Becomes (instead new) (D.text self.old.disk) (D.text self.new.disk)) }
         ensures open { OnOk result ((new : List (List ℕ)) → row.now ≡ row_bytes new
-            → IsOpen D.tells (D.text self.new.disk) (D.image self.new.disk) self.new.half self.new.used) }
+            → IsHalfOpen D.tells (D.text self.new.disk) (D.image self.new.disk) self.new.half self.new.used) }
         ensures size { length (D.text self.new.disk) ≡ length (D.text self.old.disk) }
         ensures half { OnOk result (self.new.half ≡ 1 - self.old.half) }
         ensures used { OnOk result (self.new.used + 1 ≡ length row.now) }

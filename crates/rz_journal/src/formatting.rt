@@ -3,7 +3,7 @@
 ghost use Rattle.std.specs.Prelude.{◌≡◌, ◌⊎◌, ℕ, List, [], length, replicate, IsTrue, IsErr, IsErrOf, OnOk, OnErr, IfOk, IfErr, MatchResult};
 ghost use Rattle.rz_disk.specs.Images.{Only};
 ghost use Rattle.rz_disk.specs.Meter.{Took, Lasts, Rises, faults};
-ghost use Rattle.rz_journal.specs.Stands.{disk_bytes, Holds, StandsFor, IsOpen, IsShut};
+ghost use Rattle.rz_journal.specs.Stands.{disk_bytes, HalfHolds, StandsFor, IsHalfOpen, IsShut};
 
 use crate::Entries;
 use crate::shape::{disk_bytes, header};
@@ -13,7 +13,7 @@ use std::alloc::Global;
 impl<D: Disk> Entries<D> {
     /// Makes a disk anew, with no entries.
     pub fn format(alloc: Global, disk: D) -> Result<Entries<D>, (D, DiskError)>
-        ensures open { IfOk result (λ e. IsOpen D.tells (D.text e.disk) (D.image e.disk) e.half e.used) }
+        ensures open { IfOk result (λ e. IsHalfOpen D.tells (D.text e.disk) (D.image e.disk) e.half e.used) }
         ensures none { IfOk result (λ e. IsTrue D.tells → StandsFor (D.text e.disk) []) }
         ensures used { IfOk result (λ e. e.used ≡ 0) }
 
@@ -37,8 +37,8 @@ impl<D: Disk> Entries<D> {
 
 /// Makes a disk anew.
 fn blank<D: Disk>(disk: &mut D, alloc: Global) -> Result<(), DiskError>
-    ensures crash { IsTrue D.tells → (c : List ℕ) → D.image disk.new c → D.image disk.old c ⊎ IsShut c ⊎ Holds 0 [] c }
-    ensures done { OnOk result (IsTrue D.tells → Holds 0 [] (D.text disk.new)) }
+    ensures crash { IsTrue D.tells → (c : List ℕ) → D.image disk.new c → D.image disk.old c ⊎ IsShut c ⊎ HalfHolds 0 [] c }
+    ensures done { OnOk result (IsTrue D.tells → HalfHolds 0 [] (D.text disk.new)) }
     ensures size { OnOk result (length (D.text disk.new) ≡ disk_bytes) }
     ensures only { OnOk result (Only (D.text disk.new) (D.image disk.new)) }
     ensures meter { Lasts (D.meter disk.old) (D.meter disk.new) }
@@ -57,8 +57,8 @@ fn blank<D: Disk>(disk: &mut D, alloc: Global) -> Result<(), DiskError>
 fn write_header<D: Disk>(disk: &mut D) -> Result<(), Failed>
     requires zeros { D.text disk.old ≡ replicate disk_bytes 0 }
     requires only { Only (D.text disk.old) (D.image disk.old) }
-    ensures crash { IsTrue D.tells → (c : List ℕ) → D.image disk.new c → IsShut c ⊎ Holds 0 [] c }
-    ensures done { OnOk result (IsTrue D.tells → Holds 0 [] (D.text disk.new)) }
+    ensures crash { IsTrue D.tells → (c : List ℕ) → D.image disk.new c → IsShut c ⊎ HalfHolds 0 [] c }
+    ensures done { OnOk result (IsTrue D.tells → HalfHolds 0 [] (D.text disk.new)) }
     ensures size { length (D.text disk.new) ≡ length (D.text disk.old) }
     ensures only { OnOk result (Only (D.text disk.new) (D.image disk.new)) }
     ensures meter { Lasts (D.meter disk.old) (D.meter disk.new) }

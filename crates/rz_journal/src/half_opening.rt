@@ -3,7 +3,7 @@
 ghost use Rattle.std.specs.Prelude.{◌≡◌, ◌⊎◌, ◌<◌, length, IsTrue, IsErrOf, IfOk, IfErr, MatchResult};
 ghost use Rattle.rz_disk.specs.Images.{Within};
 ghost use Rattle.rz_disk.specs.Meter.{Lasts, Rises, faults};
-ghost use Rattle.rz_journal.specs.Stands.{disk_bytes, half_bytes, IsOpen};
+ghost use Rattle.rz_journal.specs.Stands.{disk_bytes, half_bytes, IsHalfOpen};
 ghost use Rattle.rz_journal.specs.HalfOpening.{IsHalf, IsPicked, Refuses, IsOfCall, HoldsSoFar};
 
 use crate::Entries;
@@ -71,7 +71,7 @@ impl<D: Disk> Half<D> {
         requires open { IsHalf D.tells (D.text self.disk) (D.image self.disk) self.half self.bytes.items }
         requires room { used < 8_388_576 }
         requires holds { HoldsSoFar self.bytes.items used }
-        ensures open { IsOpen D.tells (D.text result.disk) (D.image result.disk) result.half result.used }
+        ensures open { IsHalfOpen D.tells (D.text result.disk) (D.image result.disk) result.half result.used }
         ensures disk { result.disk ≡ self.disk }
         ensures half { result.half ≡ self.half }
         ensures used { result.used ≡ used }

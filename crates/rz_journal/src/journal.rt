@@ -10,7 +10,7 @@ ghost use Rattle.rz_export_model.specs.Export.{new_export, is_proper};
 ghost use Rattle.rz_journal.specs.Said.{entry_of, used_after};
 ghost use Rattle.rz_journal.specs.Stands.{IsShut, IsSameHalf};
 ghost use Rattle.rz_journal.specs.JournalText.{IsTextOf};
-ghost use Rattle.rz_journal.specs.Kept.{IsRowOf, AllKeep, AllKeepEither, IsAfter, AllStandFor, AllStandForEither};
+ghost use Rattle.rz_journal.specs.Kept.{IsRowOf, AllKeep, AllKeepEither, IsExportAfter, AllStandFor, AllStandForEither};
 ghost use Rattle.rz_journal.specs.Seen.{IsOpenAnswer, IsJournalAnswer, IsInPlace, IfReply, calls_after};
 
 use crate::keeping::{keep, look};
@@ -48,7 +48,7 @@ pub struct Journal<D: Disk> {
 
 impl<D: Disk> Model for Journal<D> {
     ghost use Rattle.std.specs.Prelude.{◌≡◌, false};
-    ghost use Rattle.rz_journal.specs.Kept.{IsReady};
+    ghost use Rattle.rz_journal.specs.Kept.{IsJournalReady};
     ghost use Rattle.rz_journal.specs.Seen.{JournalView, view_code};
 
     ghost Value = { JournalView D };
@@ -58,7 +58,7 @@ impl<D: Disk> Model for Journal<D> {
     ghost view = { λ j. record { disk = j.entries.disk; used = j.entries.used; export = j.export; closed = j.closed } };
 
     // Until a device call failed, the disk is open and its text keeps the export.
-    ghost invariant = { λ j. j.closed ≡ false → IsReady D.tells (D.text j.entries.disk) (D.image j.entries.disk) j.entries.half j.entries.used j.export };
+    ghost invariant = { λ j. j.closed ≡ false → IsJournalReady D.tells (D.text j.entries.disk) (D.image j.entries.disk) j.entries.half j.entries.used j.export };
 }
 
 impl<D: Disk> Journal<D> {
@@ -105,12 +105,12 @@ impl<D: Disk> Journal<D> {
         ensures volume { self.new.export.volume ≡ self.old.export.volume }
 
         // On every exit of an open journal each image stands for the calls from before, or for these and this one.
-        ensures atomic { IsTrue D.tells → self.old.closed ≡ false → (calls : List Call) → IsAfter self.old.export calls
+        ensures atomic { IsTrue D.tells → self.old.closed ≡ false → (calls : List Call) → IsExportAfter self.old.export calls
             → AllStandForEither (D.image self.new.disk) self.old.export calls call.now }
 
         // After a reply each stands for all that were accepted, and these give the export.
-        ensures calls { IfReply result (λ r. (calls : List Call) → IsAfter self.old.export calls → IsAfter self.new.export (calls_after r call.now calls)) }
-        ensures replied { IfReply result (λ r. IsTrue D.tells → (calls : List Call) → IsAfter self.new.export calls → AllStandFor (D.image self.new.disk) self.new.export calls) }
+        ensures calls { IfReply result (λ r. (calls : List Call) → IsExportAfter self.old.export calls → IsExportAfter self.new.export (calls_after r call.now calls)) }
+        ensures replied { IfReply result (λ r. IsTrue D.tells → (calls : List Call) → IsExportAfter self.new.export calls → AllStandFor (D.image self.new.disk) self.new.export calls) }
 
         // An entry that fits goes behind the others, where the call is accepted. So the half that counts is another one
         // only where the entry does not fit.
@@ -133,12 +133,12 @@ impl<D: Disk> Journal<D> {
         ensures volume { self.new.export.volume ≡ self.old.export.volume }
 
         // On every exit of an open journal each image stands for the calls from before, or for these and this one.
-        ensures atomic { IsTrue D.tells → self.old.closed ≡ false → (calls : List Call) → IsAfter self.old.export calls
+        ensures atomic { IsTrue D.tells → self.old.closed ≡ false → (calls : List Call) → IsExportAfter self.old.export calls
             → AllStandForEither (D.image self.new.disk) self.old.export calls (call_of call.entry) }
 
         // After a reply each stands for all that were accepted, and these give the export.
-        ensures calls { IfReply result (λ r. (calls : List Call) → IsAfter self.old.export calls → IsAfter self.new.export (calls_after r (call_of call.entry) calls)) }
-        ensures replied { IfReply result (λ r. IsTrue D.tells → (calls : List Call) → IsAfter self.new.export calls → AllStandFor (D.image self.new.disk) self.new.export calls) }
+        ensures calls { IfReply result (λ r. (calls : List Call) → IsExportAfter self.old.export calls → IsExportAfter self.new.export (calls_after r (call_of call.entry) calls)) }
+        ensures replied { IfReply result (λ r. IsTrue D.tells → (calls : List Call) → IsExportAfter self.new.export calls → AllStandFor (D.image self.new.disk) self.new.export calls) }
 
         // An entry that fits goes behind the others, where the call is accepted. So the half that counts is another one
         // only where the entry does not fit.

@@ -6,7 +6,7 @@ ghost use Rattle.rz_events.specs.Borrowed.{call_of};
 ghost use Rattle.rz_export_model.specs.Export.{is_proper};
 ghost use Rattle.rz_journal.specs.Said.{entry_of};
 ghost use Rattle.rz_export.specs.Calls.{IsAnswered};
-ghost use Rattle.rz_journal.specs.Kept.{IsReady, IsRowOf, AllKeepEither};
+ghost use Rattle.rz_journal.specs.Kept.{IsJournalReady, IsRowOf, AllKeepEither};
 ghost use Rattle.rz_journal.specs.Room.{FitsNowhere, IsHalt};
 ghost use Rattle.rz_journal.specs.Said.{used_after};
 
@@ -26,10 +26,10 @@ pub fn keep<D: Disk>(
     call: CallRef<'_>,
     row: &[u8],
 ) -> Result<Reply, Halt>
-    requires ready { IsReady D.tells (D.text entries.old.disk) (D.image entries.old.disk) entries.old.half entries.old.used export.old }
+    requires ready { IsJournalReady D.tells (D.text entries.old.disk) (D.image entries.old.disk) entries.old.half entries.old.used export.old }
     requires proper { IsTrue (is_proper export.old (call_of call)) }
     requires row { IsRowOf (call_of call) row.now }
-    ensures ready { OnOk result (IsReady D.tells (D.text entries.new.disk) (D.image entries.new.disk) entries.new.half entries.new.used export.new) }
+    ensures ready { OnOk result (IsJournalReady D.tells (D.text entries.new.disk) (D.image entries.new.disk) entries.new.half entries.new.used export.new) }
     ensures answered { IfOk result (λ r. IsAnswered export.old (call_of call.entry) r export.new) }
     ensures fits { OnOk result (¬ FitsNowhere export.old entries.old.used (length row.now)) }
     ensures halted { IfErr result (IsHalt export.old entries.old.used (length row.now)) }

@@ -3,10 +3,10 @@
 ghost use Rattle.std.specs.Prelude.{◌≡◌, ◌⊎◌, false, IsTrue, List, IfOk, IfErr, MatchResult};
 ghost use Rattle.rz_disk.specs.Images.{Only, Within};
 ghost use Rattle.rz_disk.specs.Meter.{Lasts, Rises, faults};
-ghost use Rattle.rz_journal.specs.Opening.{IsReopened, IsRefused, fault_of};
+ghost use Rattle.rz_journal.specs.Opening.{IsReopened, IsJournalRefused, fault_of};
 ghost use Rattle.rz_events.specs.declared.export.Call.{Call};
 ghost use Rattle.rz_journal.specs.JournalText.{IsTextOf};
-ghost use Rattle.rz_journal.specs.Kept.{IsAfter};
+ghost use Rattle.rz_journal.specs.Kept.{IsExportAfter};
 
 use crate::journal::{Journal, rules};
 use crate::rebuilding::{JournalFault, rebuild};
@@ -28,10 +28,10 @@ impl<D: Disk> Journal<D> {
         ensures volume { IfOk result (λ j. j.export.volume ≡ volume) }
 
         // It is the one after the calls for which the text stands.
-        ensures calls { IfOk result (λ j. IsTrue D.tells → (calls : List Call) → IsTextOf volume (D.text disk) calls → IsAfter j.export calls) }
+        ensures calls { IfOk result (λ j. IsTrue D.tells → (calls : List Call) → IsTextOf volume (D.text disk) calls → IsExportAfter j.export calls) }
 
         // Each fault is the first that the text has.
-        ensures refused { IfErr result (λ e. IsRefused D.tells volume (D.text disk) e.1) }
+        ensures refused { IfErr result (λ e. IsJournalRefused D.tells volume (D.text disk) e.1) }
 
         // A text that stands for calls is refused by want of memory or a failed device call alone.
         ensures exact { IfErr result (λ e. IsTrue D.tells → (calls : List Call) → IsTextOf volume (D.text disk) calls → (e.1 ≡ JournalFault.NoMemory) ⊎ (e.1 ≡ JournalFault.DiskFault)) }

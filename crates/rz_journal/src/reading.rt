@@ -2,7 +2,7 @@
 
 ghost use Rattle.std.specs.Prelude.{◌≡◌, ◌+◌, ◌%◌, ◌<◌, length, drop, slice_index, IfOk};
 ghost use Rattle.byteorder.specs.Endian.{little_number};
-ghost use Rattle.rz_journal.specs.Listed.{IsStep};
+ghost use Rattle.rz_journal.specs.Listed.{IsEntryFound};
 
 use crate::{EntryPlace, place_at};
 use rz_journal_text::{Entry, EntryFault, read};
@@ -22,7 +22,7 @@ pub enum EntryFound {
 /// What stands at an address of a half.
 pub fn next_entry(alloc: Global, half: &[u8], at: usize) -> Result<EntryFound, AllocError>
     requires { at < length half.now }
-    ensures { IfOk result (IsStep half.now at) }
+    ensures { IfOk result (IsEntryFound half.now at) }
 {
     match place_at(half, at) {
         EntryPlace::End => Ok(EntryFound::End),
@@ -41,7 +41,7 @@ fn entry_there(
     requires gate { slice_index half.now at % 2 ≡ 1 }
     requires count { little_number 4 (drop (at + 1) half.now) ≡ count }
     requires room { at + (5 + count) < length half.now }
-    ensures { IfOk result (IsStep half.now at) }
+    ensures { IfOk result (IsEntryFound half.now at) }
 {
     let from = at + 5;
     let next = from + count;

@@ -7,7 +7,7 @@ ghost use Rattle.rz_export_model.specs.Export.{new_export, is_proper, export_rep
 ghost use Rattle.rz_export.specs.Building.{IsCounters};
 ghost use Rattle.rz_journal_text.specs.declared.entry.Entry.{Entry};
 ghost use Rattle.rz_journal.specs.Said.{entry_of, call_said, accepts};
-ghost use Rattle.rz_journal.specs.Opening.{IsSomeStage, TellsEnd, TellsPart, IsAdded, after_part, IsRebuilt, IsStopped};
+ghost use Rattle.rz_journal.specs.Opening.{IsSomeStage, TellsEnd, TellsPart, IsAdded, after_part, MakeExport, StopsAtEntry};
 
 use crate::reading::{EntryFound, next_entry};
 use crate::said::{accepts, is_kept};
@@ -60,9 +60,9 @@ impl Rebuilt {
         requires some { 1 ≤ length half.now }
         requires new { self.old.export ≡ new_export self.old.export.volume 0 }
         requires empty { self.old.stage ≡ ReopenProgress.Empty }
-        ensures rebuilt { IfOk result (λ used. IsRebuilt self.old.export.volume half.now used self.new.export) }
+        ensures rebuilt { IfOk result (λ used. MakeExport self.old.export.volume half.now used self.new.export) }
         ensures used { IfOk result (λ used. used < length half.now) }
-        ensures stopped { IfErr result (IsStopped self.old.export.volume half.now) }
+        ensures stopped { IfErr result (StopsAtEntry self.old.export.volume half.now) }
     {
         let mut at = 0;
         let mut count = 0;
@@ -214,9 +214,9 @@ impl Rebuilt {
 /// damaged.
 pub fn rebuild(alloc: Global, volume: Volume, half: &[u8]) -> Result<(Export, usize), JournalFault>
     requires { 1 ≤ length half.now }
-    ensures rebuilt { IfOk result (λ r. IsRebuilt volume half.now r.1 r.0) }
+    ensures rebuilt { IfOk result (λ r. MakeExport volume half.now r.1 r.0) }
     ensures used { IfOk result (λ r. r.1 < length half.now) }
-    ensures stopped { IfErr result (IsStopped volume half.now) }
+    ensures stopped { IfErr result (StopsAtEntry volume half.now) }
 {
     let Ok(export) = Export::new(alloc, volume, 0) else {
         return Err(JournalFault::NoMemory);

@@ -2,7 +2,7 @@
 
 ghost use Rattle.std.specs.Prelude.{◌≡◌, ◌⊎◌, ◌+◌, ◌≤◌, length, IsTrue, IsOk, IsErrOf, IfErr, OnOk};
 ghost use Rattle.rz_disk.specs.Meter.{Lasts, Rises, faults};
-ghost use Rattle.rz_journal.specs.Kept.{IsReady, AllKeep};
+ghost use Rattle.rz_journal.specs.Kept.{IsJournalReady, AllKeep};
 ghost use Rattle.rz_journal.specs.Room.{FitsNowhere, IsHalt};
 
 use crate::rows::parts_row;
@@ -28,9 +28,9 @@ pub fn make_room<D: Disk>(
     entries: &mut Entries<D>,
     row: &[u8],
 ) -> Result<(), Halt>
-    requires ready { IsReady D.tells (D.text entries.old.disk) (D.image entries.old.disk) entries.old.half entries.old.used export.now }
+    requires ready { IsJournalReady D.tells (D.text entries.old.disk) (D.image entries.old.disk) entries.old.half entries.old.used export.now }
     requires some { 1 ≤ length row.now }
-    ensures ready { OnOk result (IsReady D.tells (D.text entries.new.disk) (D.image entries.new.disk) entries.new.half entries.new.used export.now) }
+    ensures ready { OnOk result (IsJournalReady D.tells (D.text entries.new.disk) (D.image entries.new.disk) entries.new.half entries.new.used export.now) }
     ensures room { OnOk result (entries.new.used + length row.now ≤ 8_388_576) }
     ensures fits { OnOk result (¬ FitsNowhere export.now entries.old.used (length row.now)) }
 

@@ -1,7 +1,7 @@
 //! The entries of a half, one by one.
 
 ghost use Rattle.std.specs.Prelude.{◌<◌, length};
-ghost use Rattle.rz_journal.specs.Walk.{IsPlace};
+ghost use Rattle.rz_journal.specs.Walk.{IsEntryPlace};
 
 use byteorder::{ByteOrder, LittleEndian};
 
@@ -19,7 +19,7 @@ pub enum EntryPlace {
 /// What stands at an address of a half.
 pub fn place_at(half: &[u8], at: usize) -> EntryPlace
     requires { at < length half.now }
-    ensures { IsPlace half.now at result }
+    ensures { IsEntryPlace half.now at result }
 {
     if half[at] % 2 == 0 {
         return EntryPlace::End;

@@ -1,7 +1,7 @@
 //! A disk beside its bytes, worked out by hand.
 
 ghost use Rattle.std.specs.Prelude.{◌≡◌};
-ghost use Rattle.rz_journal.specs.Stands.{IsOpen};
+ghost use Rattle.rz_journal.specs.Stands.{IsHalfOpen};
 
 use crate::making::all_stand;
 use rz_disk::{Disk, PlainDisk};
@@ -25,7 +25,7 @@ fn row_of_one(alloc: Global) -> Result<Vec<u8>, AllocError> {
 
 /// A disk made anew, without an entry.
 fn formatted<D: Disk>(rt: &(impl Abort + AllocGlobal), disk: D) -> Entries<D>
-    ensures open { IsOpen D.tells (D.text result.disk) (D.image result.disk) result.half result.used }
+    ensures open { IsHalfOpen D.tells (D.text result.disk) (D.image result.disk) result.half result.used }
     ensures used { result.used ≡ 0 }
 {
     match Entries::format(rt.alloc(), disk) {

@@ -10,18 +10,18 @@ use Rattle.rz_events.specs.declared.export.Reply.TheVariants.{Tree, Begun, Accep
 use Rattle.rz_export_model.specs.Export.{Export, new_export, export_reply, export_after}
 use Rattle.rz_export.specs.Calls.{IsAnswered, MayWant}
 use Rattle.rz_journal.specs.JournalText.{IsTextOf}
-use Rattle.rz_journal.specs.Kept.{IsAfter, AllStandFor}
+use Rattle.rz_journal.specs.Kept.{IsExportAfter, AllStandFor}
 use Rattle.rz_journal.specs.Said.{entry_of}
 use Rattle.rz_journal.specs.Seen.{JournalView, IsFull, IsJournalAnswer, calls_after}
 use Rattle.rz_journal.specs.declared.journal.JournalReply.TheVariants as answer
 use Rattle.rz_journal.proofs.Refused.{volume_same}
 use Rattle.rz_metadata.specs.declared.journaled.JournalRefusal.{JournalRefusal}
 use Rattle.rz_metadata.specs.declared.journaled.JournalRefusal.TheVariants as refusal
-use Rattle.rz_metadata.specs.Stands.{IsKept, IsLeft, IsLeftBy, wants_memory}
+use Rattle.rz_metadata.specs.Stands.{IsJournalKept, IsCallLeft, IsLeftBy, wants_memory}
 
 -- a journal that was formatted kept no calls
 pub made-anew : {D : Type 0} (tells : Bool) (meter : D → Meter) (text : D → List ℕ) (image : D → List ℕ → Type 0) (v : Volume) (j : JournalView D) → j.export ≡ new_export v 0 → j.closed ≡ false
-    → (IsTrue tells → IsTextOf v (text j.disk) []) → Only (text j.disk) (image j.disk) → (first : ℕ) → first ≤ faults (meter j.disk) → IsKept tells meter image first (record { journal = j; refusal = None }) []
+    → (IsTrue tells → IsTextOf v (text j.disk) []) → Only (text j.disk) (image j.disk) → (first : ℕ) → first ≤ faults (meter j.disk) → IsJournalKept tells meter image first (record { journal = j; refusal = None }) []
 made-anew tells meter text image v j made opened stands settled first counted =
     let volume : j.export.volume ≡ v = ap (λ (s : Export). s.volume) made in
     record {
@@ -60,21 +60,21 @@ none-added c calls = go (is_some (entry_of c))
     go false = refl
 
 pub left-wanting : {D : Type 0} (tells : Bool) (meter : D → Meter) (image : D → List ℕ → Type 0) (first : ℕ) (old new : JournalView D) (c : Call) (calls : List Call) (refusal : Option JournalRefusal) (r : Reply) → r ≡ NoMemory
-    → (IsAfter old.export calls → IsAfter new.export (calls_after r c calls)) → (IsTrue tells → (later : List Call) → IsAfter new.export later → AllStandFor (image new.disk) new.export later)
-    → IsKept tells meter image first (record { journal = old; refusal = refusal }) calls → IsLeft tells meter image first (record { journal = new; refusal = refusal }) calls c
+    → (IsExportAfter old.export calls → IsExportAfter new.export (calls_after r c calls)) → (IsTrue tells → (later : List Call) → IsExportAfter new.export later → AllStandFor (image new.disk) new.export later)
+    → IsJournalKept tells meter image first (record { journal = old; refusal = refusal }) calls → IsCallLeft tells meter image first (record { journal = new; refusal = refusal }) calls c
 left-wanting tells meter image first old new c calls refusal r wants more stands kept =
-    let after : IsAfter new.export calls = subst (IsAfter new.export) (ap (λ (x : Reply). calls_after x c calls) wants ∙ none-added c calls) (more kept.after) in
+    let after : IsExportAfter new.export calls = subst (IsExportAfter new.export) (ap (λ (x : Reply). calls_after x c calls) wants ∙ none-added c calls) (more kept.after) in
     subst (λ (o : Option JournalRefusal). IsLeftBy o tells (image new.disk) first (faults (meter new.disk)) new.export calls c) (sym kept.unrefused) (λ told. stands told calls after)
 
 -- a journal that was full has the export from before, and no half has room for the call
 pub left-full : {D : Type 0} (tells : Bool) (meter : D → Meter) (image : D → List ℕ → Type 0) (first : ℕ) (old new : JournalView D) (c : Call) (calls : List Call) (was : Option JournalRefusal) (need have : ℕ)
-    → IsJournalAnswer old c (answer.Full need have) new → IsKept tells meter image first (record { journal = old; refusal = was }) calls
-    → IsLeft tells meter image first (record { journal = new; refusal = Some refusal.Full }) calls c
+    → IsJournalAnswer old c (answer.Full need have) new → IsJournalKept tells meter image first (record { journal = old; refusal = was }) calls
+    → IsCallLeft tells meter image first (record { journal = new; refusal = Some refusal.Full }) calls c
 left-full tells meter image first old new c calls was need have answered kept = ⊎_elim
     (λ (closed : (old.closed ≡ true) × (answer.Full need have ≡ answer.Closed) × (new ≡ old)). absurd (let is = closed.1 in cc))
     (λ (opened : (old.closed ≡ false) × ((new ≡ old) × IsFull old c need × (have ≡ 8_388_576))).
     let full = opened.1.1 in
-    subst (λ (j : JournalView _). IsLeft tells meter image first (record { journal = j; refusal = Some refusal.Full }) calls c) (sym opened.1.0)
+    subst (λ (j : JournalView _). IsCallLeft tells meter image first (record { journal = j; refusal = Some refusal.Full }) calls c) (sym opened.1.0)
     (kept.after, (full.0, full.1, full.2.not_there), kept.images))
     answered
 

@@ -21,12 +21,12 @@ loss_among node [] = 0
 loss_among node (e ∷ es) = cond (e.0 == node) e.1 (loss_among node es)
 
 -- the loss that a part says, with its node
-abbrev pub loss_in : Part → Option (ℕ × ℕ)
-loss_in (part.Counters last made) = None
-loss_in (part.Object fid kind mode mtime size cid places target) = None
-loss_in (part.Name path fid) = None
-loss_in (part.Block key latest published) = None
-loss_in (part.Enrolled node loss fence) = Some (node, loss)
+abbrev pub loss_of_part : Part → Option (ℕ × ℕ)
+loss_of_part (part.Counters last made) = None
+loss_of_part (part.Object fid kind mode mtime size cid places target) = None
+loss_of_part (part.Name path fid) = None
+loss_of_part (part.Block key latest published) = None
+loss_of_part (part.Enrolled node loss fence) = Some (node, loss)
 
 abbrev pub losses_in : List Part → List (ℕ × ℕ)
-losses_in parts = filter_map loss_in parts
+losses_in parts = filter_map loss_of_part parts

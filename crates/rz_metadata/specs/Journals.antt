@@ -10,13 +10,13 @@ use Rattle.rz_metadata.specs.declared.metadata.Metadata.{Metadata}
 use Rattle.rz_metadata.specs.Stands.{export_in, Stands, StandsAtEnd}
 
 -- the text of a write that begins is one of bytes
-abbrev pub HasBytes : Call → Type 0
-HasBytes (call.Begin key text) = All (λ x. x < 256) text
-HasBytes c = Unit {0}
+abbrev pub WritesBytes : Call → Type 0
+WritesBytes (call.Begin key text) = All (λ x. x < 256) text
+WritesBytes c = Unit {0}
 
 -- A call was replied to. Where it was accepted it joins the calls for which the journal's disk stands, as it was called.
 pub record KeepsCall {D : Type 0} (tells : Bool) (meter : D → Meter) (image : D → List ℕ → Type 0) (c : Call) (m m' : Metadata D) : Type 0 where
-  pub bytes : HasBytes c
+  pub bytes : WritesBytes c
   pub stands : (first : ℕ) (calls : List Call) → Stands tells meter image first m calls → Stands tells meter image first m' (calls_after (export_reply (export_in m) c) c calls)
 
 -- It stands for these calls, or for these and one more: one that was replied to and not noted, or one that the journal did not keep.

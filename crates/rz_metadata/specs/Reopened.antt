@@ -25,10 +25,10 @@ abbrev pub AllTextsOf : Volume → (List ℕ → Type 0) → List Call → Type 
 AllTextsOf volume image calls = (c : List ℕ) → image c → IsTextOf volume c calls
 
 -- the number of a fault of a journal; want of memory has none
-abbrev pub number_of : JournalFault → ℕ
-number_of fault.NoMemory = 0
-number_of (fault.WrongSize have need) = 1
-number_of fault.DiskFault = 2
-number_of fault.Unformatted = 3
-number_of fault.BadHeader = 4
-number_of (fault.Damaged entry) = 5
+abbrev pub journal_fault_number : JournalFault → ℕ
+journal_fault_number fault.NoMemory = 0
+journal_fault_number (fault.WrongSize have need) = 1
+journal_fault_number fault.DiskFault = 2
+journal_fault_number fault.Unformatted = 3
+journal_fault_number fault.BadHeader = 4
+journal_fault_number (fault.Damaged entry) = 5

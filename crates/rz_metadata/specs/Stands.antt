@@ -6,7 +6,7 @@ use Rattle.rz_events.specs.declared.export.Reply.{Reply}
 use Rattle.rz_events.specs.declared.export.Reply.TheVariants.{NoMemory}
 use Rattle.rz_export_model.specs.Export.{Export}
 use Rattle.rz_journal_text.specs.declared.entry.Entry.{Entry}
-use Rattle.rz_journal.specs.Kept.{IsAfter, AllStandFor, AllStandForEither}
+use Rattle.rz_journal.specs.Kept.{IsExportAfter, AllStandFor, AllStandForEither}
 use Rattle.rz_journal.specs.Room.{row_length, needed}
 use Rattle.rz_journal.specs.Said.{entry_of}
 use Rattle.rz_metadata.specs.declared.journaled.Journaled.{Journaled as Behind}
@@ -34,10 +34,10 @@ refusal_of (Journaled j) = j.refusal
 
 -- The journal kept these calls: a new store accepted them, and then has its export, and each image of the disk stands for them.
 -- The disk had counted so many faults at first.
-pub record IsKept {D : Type 0} (tells : Bool) (meter : D → Meter) (image : D → List ℕ → Type 0) (first : ℕ) (j : Behind D) (calls : List Call) : Type 0 where
+pub record IsJournalKept {D : Type 0} (tells : Bool) (meter : D → Meter) (image : D → List ℕ → Type 0) (first : ℕ) (j : Behind D) (calls : List Call) : Type 0 where
   pub unrefused : j.refusal ≡ None
   pub is_open : j.journal.closed ≡ false
-  pub after : IsAfter j.journal.export calls
+  pub after : IsExportAfter j.journal.export calls
   pub images : IsTrue tells → AllStandFor (image j.journal.disk) j.journal.export calls
   pub lasts : first ≤ faults (meter j.journal.disk)
 
@@ -51,21 +51,21 @@ OverfillsHalf s c = (e : Entry) × (entry_of c ≡ Some e) × (8_388_576 < neede
 
 abbrev pub IsLeftBy : Option JournalRefusal → Bool → (List ℕ → Type 0) → (first now : ℕ) → Export → List Call → Call → Type 0
 IsLeftBy None tells image first now s calls c = IsTrue tells → AllStandFor image s calls
-IsLeftBy (Some Full) tells image first now s calls c = IsAfter s calls × OverfillsHalf s c × (IsTrue tells → AllStandFor image s calls)
+IsLeftBy (Some Full) tells image first now s calls c = IsExportAfter s calls × OverfillsHalf s c × (IsTrue tells → AllStandFor image s calls)
 IsLeftBy (Some Failed) tells image first now s calls c = Rises first now × (IsTrue tells → AllStandForEither image s calls c)
 
-abbrev pub IsLeft : {D : Type 0} → Bool → (D → Meter) → (D → List ℕ → Type 0) → ℕ → Behind D → List Call → Call → Type 0
-IsLeft tells meter image first j calls c = IsLeftBy j.refusal tells (image j.journal.disk) first (faults (meter j.journal.disk)) j.journal.export calls c
+abbrev pub IsCallLeft : {D : Type 0} → Bool → (D → Meter) → (D → List ℕ → Type 0) → ℕ → Behind D → List Call → Call → Type 0
+IsCallLeft tells meter image first j calls c = IsLeftBy j.refusal tells (image j.journal.disk) first (faults (meter j.journal.disk)) j.journal.export calls c
 
 -- Of all metadata: in memory they stand on no disk.
 
 abbrev pub Stands : {D : Type 0} → Bool → (D → Meter) → (D → List ℕ → Type 0) → ℕ → Metadata D → List Call → Type 0
 Stands tells meter image first (InMemory s) calls = Unit {0}
-Stands tells meter image first (Journaled j) calls = IsKept tells meter image first j calls
+Stands tells meter image first (Journaled j) calls = IsJournalKept tells meter image first j calls
 
 abbrev pub StandsAtEnd : {D : Type 0} → Bool → (D → Meter) → (D → List ℕ → Type 0) → ℕ → Metadata D → List Call → Call → Type 0
 StandsAtEnd tells meter image first (InMemory s) calls c = Unit {0}
-StandsAtEnd tells meter image first (Journaled j) calls c = IsLeft tells meter image first j calls c
+StandsAtEnd tells meter image first (Journaled j) calls c = IsCallLeft tells meter image first j calls c
 
 -- the reply says that memory is wanting
 abbrev pub wants_memory : Reply → Bool

@@ -4,7 +4,7 @@ ghost use Rattle.rz_events.specs.declared.export.Call.{Call as ACall};
 ghost use Rattle.rz_export_model.specs.Export.{export_reply, export_after, is_proper};
 ghost use Rattle.rz_journal.specs.Seen.{calls_after};
 ghost use Rattle.rz_events.specs.Borrowed.{call_of};
-ghost use Rattle.rz_metadata.specs.Stands.{IsKept, IsLeft};
+ghost use Rattle.rz_metadata.specs.Stands.{IsJournalKept, IsCallLeft};
 
 use crate::memory::{NoReply, wants_memory};
 use rz_disk::Disk;
@@ -32,8 +32,8 @@ impl<D: Disk> Journaled<D> {
     pub(crate) fn reply(&mut self, ask: CallRef<'_>) -> Result<Reply, NoReply>
         ensures reply { IfOk result (λ r. r ≡ export_reply self.old.journal.export (call_of ask.entry)) }
         ensures after { OnOk result (self.new.journal.export ≡ export_after self.old.journal.export (call_of ask.entry)) }
-        ensures kept { IfOk result (λ r. (first : ℕ) (calls : List ACall) → IsKept D.tells D.meter D.image first self.old calls → IsKept D.tells D.meter D.image first self.new (calls_after r (call_of ask.entry) calls)) }
-        ensures left { OnErr result ((first : ℕ) (calls : List ACall) → IsKept D.tells D.meter D.image first self.old calls → IsLeft D.tells D.meter D.image first self.new calls (call_of ask.entry)) }
+        ensures kept { IfOk result (λ r. (first : ℕ) (calls : List ACall) → IsJournalKept D.tells D.meter D.image first self.old calls → IsJournalKept D.tells D.meter D.image first self.new (calls_after r (call_of ask.entry) calls)) }
+        ensures left { OnErr result ((first : ℕ) (calls : List ACall) → IsJournalKept D.tells D.meter D.image first self.old calls → IsCallLeft D.tells D.meter D.image first self.new calls (call_of ask.entry)) }
         ensures volume { self.new.journal.export.volume ≡ self.old.journal.export.volume }
     {
         if self.refusal.is_some() || !self.journal.export().takes_ref(ask) {
@@ -47,8 +47,8 @@ impl<D: Disk> Journaled<D> {
         requires { IsTrue (is_proper self.old.journal.export (call_of ask)) }
         ensures reply { IfOk result (λ r. r ≡ export_reply self.old.journal.export (call_of ask.entry)) }
         ensures after { OnOk result (self.new.journal.export ≡ export_after self.old.journal.export (call_of ask.entry)) }
-        ensures kept { IfOk result (λ r. (first : ℕ) (calls : List ACall) → IsKept D.tells D.meter D.image first self.old calls → IsKept D.tells D.meter D.image first self.new (calls_after r (call_of ask.entry) calls)) }
-        ensures left { OnErr result ((first : ℕ) (calls : List ACall) → IsKept D.tells D.meter D.image first self.old calls → IsLeft D.tells D.meter D.image first self.new calls (call_of ask.entry)) }
+        ensures kept { IfOk result (λ r. (first : ℕ) (calls : List ACall) → IsJournalKept D.tells D.meter D.image first self.old calls → IsJournalKept D.tells D.meter D.image first self.new (calls_after r (call_of ask.entry) calls)) }
+        ensures left { OnErr result ((first : ℕ) (calls : List ACall) → IsJournalKept D.tells D.meter D.image first self.old calls → IsCallLeft D.tells D.meter D.image first self.new calls (call_of ask.entry)) }
         ensures volume { self.new.journal.export.volume ≡ self.old.journal.export.volume }
     {
         match self.journal.answer_ref(ask) {

@@ -5,8 +5,8 @@ ghost use Rattle.rz_events.specs.declared.files.NodeSpec.{NodeSpec as ANode};
 ghost use Rattle.rz_events.specs.declared.export.Call.{Call as ACall};
 ghost use Rattle.rz_export_model.specs.Export.{export_reply, export_after, new_export, published_after};
 ghost use Rattle.rz_journal.specs.JournalText.{IsTextOf};
-ghost use Rattle.rz_journal.specs.Kept.{IsAfter};
-ghost use Rattle.rz_journal.specs.Opening.{IsRefused};
+ghost use Rattle.rz_journal.specs.Kept.{IsExportAfter};
+ghost use Rattle.rz_journal.specs.Opening.{IsJournalRefused};
 ghost use Rattle.rz_journal.specs.Seen.{calls_after};
 ghost use Rattle.rz_journal.specs.Stands.{IsShut};
 ghost use Rattle.rz_events.specs.Borrowed.{call_of};
@@ -71,11 +71,11 @@ impl<D: Disk> Metadata<D> {
         ensures refusal { IfOk result (λ m. refusal_of m ≡ None) }
 
         // It stands for the calls for which each image of the disk stood as it came, and has the export after them.
-        ensures calls { IfOk result (λ m. IsTrue D.tells → (calls : List ACall) → IsTextOf volume (D.text disk) calls → IsAfter (export_in m) calls) }
+        ensures calls { IfOk result (λ m. IsTrue D.tells → (calls : List ACall) → IsTextOf volume (D.text disk) calls → IsExportAfter (export_in m) calls) }
         ensures stands { IfOk result (λ m. IsTrue D.tells → (calls : List ACall) → AllTextsOf volume (D.image disk) calls → Stands D.tells D.meter D.image (faults (D.meter disk)) m calls) }
 
         // Each fault is the first that the text has.
-        ensures refused { IfErr result (λ e. IsRefused D.tells volume (D.text disk) e.1) }
+        ensures refused { IfErr result (λ e. IsJournalRefused D.tells volume (D.text disk) e.1) }
         ensures risen { IfErr result (λ e. e.1 ≡ JournalFault.DiskFault → Rises (faults (D.meter disk)) (faults (D.meter e.0))) }
 
         // A text that stands for calls is refused by want of memory or a failed device call alone.

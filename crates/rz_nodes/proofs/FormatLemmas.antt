@@ -10,7 +10,7 @@ use Rattle.rz_disk.specs.Meter.{Meter}
 use Rattle.rz_disk.specs.UnderFuse.{UnderFuse}
 use Rattle.rz_events.specs.declared.files.NodeSpec.{NodeSpec}
 use Rattle.rz_nodes.specs.declared.formatting.Server.{Server}
-use Rattle.rz_nodes.specs.Formatted.{geometry_of, IsFormatted, IsBack, AreBack}
+use Rattle.rz_nodes.specs.Formatted.{geometry_of, IsNodeFormatted, IsBack, AreBack}
 use Rattle.rz_nodes.proofs.Rowwise.{get-behind, zip-length, zip-map, zip-mid, zip-same}
 
 pub pushed : {A : Type 0} (xs ys : List A) (x : A) (b : Bool) → ys ≡ (if b then xs ++ x ∷ [] else xs) → b ≡ true → ys ≡ xs ++ x ∷ []
@@ -74,7 +74,7 @@ module _ {N D : Type 0} where
 
 module _ {D : Type 0} (tells : Bool) (meter : D → Meter) (text : D → List ℕ) (image : D → List ℕ → Type 0) (layout : Layout) where
   -- a disk that was formatted may come back
-  pub new-back : (h : NodeSpec × D) (s : Server (UnderFuse D)) → IsFormatted tells meter text image layout h s → IsBack tells meter image layout h s.node.disk.disk
+  pub new-back : (h : NodeSpec × D) (s : Server (UnderFuse D)) → IsNodeFormatted tells meter text image layout h s → IsBack tells meter image layout h s.node.disk.disk
   new-back h s made = record {
     count = made.count;
     images = λ told c is. inr (inr (subst (λ (b : List ℕ). StandsFor (geometry_of layout h.0) 0 b nothing) (sym (made.settled c is)) (made.stands told)));

@@ -21,7 +21,7 @@ use Rattle.rz_cells_slots.specs.Stands.{StandsFor}
 use Rattle.rz_node_model.specs.States.{opened}
 use Rattle.rz_node.specs.View.{NodeView}
 use Rattle.rz_node.specs.HeldOnDisk.{IsHeldOnDisk}
-use Rattle.rz_nodes.specs.Opened.{AreKept, IsCause, IsFaultOf, IsFirstUnopened, IsKept, IsOpened, refusal_at}
+use Rattle.rz_nodes.specs.Opened.{AreDisksBack, IsCause, IsFaultOf, IsFirstUnopened, IsDiskBack, IsNodeOpened, refusal_at}
 
 -- two lists in one
 
@@ -75,16 +75,16 @@ cause-of tells meter text image layout nodes losses disks back index (fault.Twic
 
 module _ {D : Type 0} (tells : Bool) (meter : D → Meter) (text : D → List ℕ) (image : D → List ℕ → Type 0) (layout : Layout) where
   -- a disk that was opened is kept
-  pub opened-kept : (h : (NodeSpec × ℕ) × D) (s : Server (UnderFuse D)) → IsOpened tells meter text image layout h s → IsKept meter text image h.1 s.node.disk.disk
+  pub opened-kept : (h : (NodeSpec × ℕ) × D) (s : Server (UnderFuse D)) → IsNodeOpened tells meter text image layout h s → IsDiskBack meter text image h.1 s.node.disk.disk
   opened-kept h s is = record { count = is.count; same = is.same; images = is.images }
 
   -- the disks so far and those behind the one that failed are in the row that comes back
   pub first-at : (nodes : List NodeSpec) (losses : List ℕ) (disks back rest : List D) (servers : List (Server (UnderFuse D))) (done later : List ((NodeSpec × ℕ) × D)) (index : ℕ)
-      → zip (zip nodes losses) disks ≡ done ++ later → length done ≡ index → AllZip (IsOpened tells meter text image layout) done servers → length servers ≡ index → back ≡ disks_of servers ++ rest
-      → (made : List (Server (UnderFuse D))) × AllZip (IsOpened tells meter text image layout) (take index (zip (zip nodes losses) disks)) made × (take index back ≡ disks_of made)
+      → zip (zip nodes losses) disks ≡ done ++ later → length done ≡ index → AllZip (IsNodeOpened tells meter text image layout) done servers → length servers ≡ index → back ≡ disks_of servers ++ rest
+      → (made : List (Server (UnderFuse D))) × AllZip (IsNodeOpened tells meter text image layout) (take index (zip (zip nodes losses) disks)) made × (take index back ≡ disks_of made)
   first-at nodes losses disks back rest servers done later index is long all count back_is = (
     servers,
-    subst (λ (ps : List ((NodeSpec × ℕ) × D)). AllZip (IsOpened tells meter text image layout) ps servers) (sym (take-front done later _ index is long)) all,
+    subst (λ (ps : List ((NodeSpec × ℕ) × D)). AllZip (IsNodeOpened tells meter text image layout) ps servers) (sym (take-front done later _ index is long)) all,
     take-front (disks_of servers) rest back index back_is (length-map servers (λ (s : Server (UnderFuse D)). s.node.disk.disk) ∙ count),
   )
 
@@ -106,7 +106,7 @@ module _ {D : Type 0} (tells : Bool) (meter : D → Meter) (text : D → List �
       → (IsTrue tells → (records : Records) → StandsFor g n.state.fence (text n.disk.disk) records → IsHeldOnDisk n.state.held records)
       → Only (text n.disk.disk) (image n.disk.disk) → text n.disk.disk ≡ text f.disk → Within (image f.disk) (image n.disk.disk)
       → (f.fuse ≡ None → n.disk.fuse ≡ None) → (f.planned < n.disk.planned → (m : ℕ) × (f.fuse ≡ Some m) × (m < k)) → faults (meter f.disk) ≤ faults (meter n.disk.disk)
-      → IsOpened tells meter text image layout ((node, losses), disk) (record { sid = node.sid; node = n; pick = 0 })
+      → IsNodeOpened tells meter text image layout ((node, losses), disk) (record { sid = node.sid; node = n; pick = 0 })
   opened-one image losses k n state geometry stands shows settled told within unarmed only counted = record {
     number = refl;
     geometry = geometry ∙ same;
@@ -145,10 +145,10 @@ module _ {D : Type 0} (tells : Bool) (meter : D → Meter) (text : D → List �
 
 module _ {D : Type 0} (meter : D → Meter) (text : D → List ℕ) (image : D → List ℕ → Type 0) where
   -- and one that was not touched
-  pub same-kept : (d : D) → IsKept meter text image d d
+  pub same-kept : (d : D) → IsDiskBack meter text image d d
   same-kept d = record { count = omega arith; same = refl; images = λ c is. is }
 
   -- disks that nobody touched
-  pub untouched : (disks : List D) → AreKept meter text image disks disks
+  pub untouched : (disks : List D) → AreDisksBack meter text image disks disks
   untouched [] = tt
   untouched (d ∷ ds) = (same-kept d, untouched ds)

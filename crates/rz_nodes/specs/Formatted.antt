@@ -23,7 +23,7 @@ geometry_of layout n = record { layout = layout; bsize = bsize_of layout; node =
 
 -- A disk was formatted for a node: its one image is its text, which stands for nothing. It is not armed, and its count of faults
 -- did not fall.
-pub record IsFormatted {D : Type 0} (tells : Bool) (meter : D → Meter) (text : D → List ℕ) (image : D → List ℕ → Type 0) (layout : Layout) (handed : NodeSpec × D) (s : Server (UnderFuse D)) : Type 0 where
+pub record IsNodeFormatted {D : Type 0} (tells : Bool) (meter : D → Meter) (text : D → List ℕ) (image : D → List ℕ → Type 0) (layout : Layout) (handed : NodeSpec × D) (s : Server (UnderFuse D)) : Type 0 where
   pub number : s.sid ≡ handed.0.sid
   pub geometry : s.node.geometry ≡ geometry_of layout handed.0
   pub state : s.node.state ≡ fresh
@@ -42,7 +42,7 @@ pub record IsBack {D : Type 0} (tells : Bool) (meter : D → Meter) (image : D �
 
 -- each disk, in its order
 abbrev pub AreFormatted : {D : Type 0} → Bool → (D → Meter) → (D → List ℕ) → (D → List ℕ → Type 0) → Layout → List NodeSpec → List D → List (Server (UnderFuse D)) → Type 0
-AreFormatted tells meter text image layout nodes disks made = AllZip (IsFormatted tells meter text image layout) (zip nodes disks) made
+AreFormatted tells meter text image layout nodes disks made = AllZip (IsNodeFormatted tells meter text image layout) (zip nodes disks) made
 
 abbrev pub AreBack : {D : Type 0} → Bool → (D → Meter) → (D → List ℕ → Type 0) → Layout → List NodeSpec → List D → List D → Type 0
 AreBack tells meter image layout nodes disks back = AllZip (IsBack tells meter image layout) (zip nodes disks) back

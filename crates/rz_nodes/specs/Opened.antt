@@ -22,7 +22,7 @@ use Rattle.rz_nodes.specs.declared.refusal.OpenRefusal.TheVariants as refusal
 
 -- A disk was opened for a node that lost so many disks: what the node holds is what the disk's text stands for. The disk has the
 -- text that it came with, and that text is its one image. It is not armed, and its count of faults did not fall.
-pub record IsOpened {D : Type 0} (tells : Bool) (meter : D → Meter) (text : D → List ℕ) (image : D → List ℕ → Type 0) (layout : Layout) (handed : (NodeSpec × ℕ) × D) (s : Server (UnderFuse D)) : Type 0 where
+pub record IsNodeOpened {D : Type 0} (tells : Bool) (meter : D → Meter) (text : D → List ℕ) (image : D → List ℕ → Type 0) (layout : Layout) (handed : (NodeSpec × ℕ) × D) (s : Server (UnderFuse D)) : Type 0 where
   pub number : s.sid ≡ handed.0.0.sid
   pub geometry : s.node.geometry ≡ geometry_of layout handed.0.0
   pub state : s.node.state ≡ opened handed.0.1 s.node.state.fence s.node.state.held
@@ -37,7 +37,7 @@ pub record IsOpened {D : Type 0} (tells : Bool) (meter : D → Meter) (text : D 
   pub settled : Only (text s.node.disk.disk) (image s.node.disk.disk)
 
 -- A disk comes back as it came: its text is the same, each image is one from before, and its count of faults did not fall.
-pub record IsKept {D : Type 0} (meter : D → Meter) (text : D → List ℕ) (image : D → List ℕ → Type 0) (handed back : D) : Type 0 where
+pub record IsDiskBack {D : Type 0} (meter : D → Meter) (text : D → List ℕ) (image : D → List ℕ → Type 0) (handed back : D) : Type 0 where
   pub count : faults (meter handed) ≤ faults (meter back)
   pub same : text back ≡ text handed
   pub images : Within (image handed) (image back)
@@ -54,10 +54,10 @@ pub record IsFaultOf {D : Type 0} (tells : Bool) (meter : D → Meter) (text : D
 -- each disk, in its order
 
 abbrev pub AreOpened : {D : Type 0} → Bool → (D → Meter) → (D → List ℕ) → (D → List ℕ → Type 0) → Layout → List NodeSpec → List ℕ → List D → List (Server (UnderFuse D)) → Type 0
-AreOpened tells meter text image layout nodes losses disks made = AllZip (IsOpened tells meter text image layout) (zip (zip nodes losses) disks) made
+AreOpened tells meter text image layout nodes losses disks made = AllZip (IsNodeOpened tells meter text image layout) (zip (zip nodes losses) disks) made
 
-abbrev pub AreKept : {D : Type 0} → (D → Meter) → (D → List ℕ) → (D → List ℕ → Type 0) → List D → List D → Type 0
-AreKept meter text image disks back = AllZip (IsKept meter text image) disks back
+abbrev pub AreDisksBack : {D : Type 0} → (D → Meter) → (D → List ℕ) → (D → List ℕ → Type 0) → List D → List D → Type 0
+AreDisksBack meter text image disks back = AllZip (IsDiskBack meter text image) disks back
 
 -- The disk with this index did not open for this fault, and it was the first: those before it were opened.
 pub record IsFirstUnopened {D : Type 0} (tells : Bool) (meter : D → Meter) (text : D → List ℕ) (image : D → List ℕ → Type 0) (layout : Layout) (nodes : List NodeSpec) (losses : List ℕ) (disks back : List D) (index : ℕ) (why : OpenFault) : Type 0 where
@@ -68,7 +68,7 @@ pub record IsFirstUnopened {D : Type 0} (tells : Bool) (meter : D → Meter) (te
   pub was : slice_get disks index ≡ Some old
   pub is : slice_get back index ≡ Some new
   pub fault_of : IsFaultOf tells meter text layout node old new why
-  pub before : (made : List (Server (UnderFuse D))) × AllZip (IsOpened tells meter text image layout) (take index (zip (zip nodes losses) disks)) made × (take index back ≡ disks_of made)
+  pub before : (made : List (Server (UnderFuse D))) × AllZip (IsNodeOpened tells meter text image layout) (take index (zip (zip nodes losses) disks)) made × (take index back ≡ disks_of made)
 
 -- why the disks were not opened: the cause is the number of the fault of the first disk that did not open
 abbrev pub IsCause : {D : Type 0} → Bool → (D → Meter) → (D → List ℕ) → (D → List ℕ → Type 0) → Layout → List NodeSpec → List ℕ → List D → List D → OpenRefusal → Type 0

@@ -4,7 +4,7 @@ ghost use Rattle.std.specs.List.{AllByRecursion};
 ghost use Rattle.std.specs.Vec.{vec_len, vec_capacity};
 ghost use Rattle.rz_disk.specs.Meter.{Rises, faults};
 ghost use Rattle.rz_events.specs.Volume.{IsNode};
-ghost use Rattle.rz_nodes.specs.Formatted.{AreBack, AreFormatted, IsBack, IsCause, IsFormatted};
+ghost use Rattle.rz_nodes.specs.Formatted.{AreBack, AreFormatted, IsBack, IsCause, IsNodeFormatted};
 
 use crate::back::hand_back;
 use crate::fault::{DriverFault, fault_at};
@@ -67,7 +67,7 @@ fn format_one<D: Disk>(
     disk: D,
 ) -> Result<Server<Fused<D>>, (D, FormatFault)>
     requires node { IsNode node }
-    ensures made { IfOk result (λ s. IsFormatted D.tells D.meter D.text D.image layout (node, disk) s) }
+    ensures made { IfOk result (λ s. IsNodeFormatted D.tells D.meter D.text D.image layout (node, disk) s) }
     ensures back { IfErr result (λ r. IsBack D.tells D.meter D.image layout (node, disk) r.0) }
     ensures risen { IfErr result (λ r. r.1 ≡ FormatFault.DiskFault → Rises (faults (D.meter disk)) (faults (D.meter r.0))) }
 {

@@ -3,7 +3,7 @@ ghost use Rattle.std.specs.Prelude.{◌≡◌, ◌≤◌, ℕ, IfOk, IfErr, leng
 ghost use Rattle.std.specs.List.{AllByRecursion};
 ghost use Rattle.std.specs.Vec.{vec_len, vec_capacity};
 ghost use Rattle.rz_events.specs.Volume.{IsNode};
-ghost use Rattle.rz_nodes.specs.Opened.{AreKept, AreOpened, IsCause, IsKept, IsOpened, IsFaultOf};
+ghost use Rattle.rz_nodes.specs.Opened.{AreDisksBack, AreOpened, IsCause, IsDiskBack, IsNodeOpened, IsFaultOf};
 
 use crate::refusal::{OpenRefusal, refusal_at};
 use crate::{Server, hand_back};
@@ -28,7 +28,7 @@ pub fn open_all<D: Disk>(
     ensures made { IfOk result (λ r. AreOpened D.tells D.meter D.text D.image layout nodes.now losses.now disks.items r.0.items) }
     ensures empty { IfOk result (λ r. vec_len r.1 ≡ 0) }
     ensures room { IfOk result (λ r. vec_len r.0 ≤ vec_capacity r.1) }
-    ensures back { IfErr result (λ r. AreKept D.meter D.text D.image disks.items r.0.items) }
+    ensures back { IfErr result (λ r. AreDisksBack D.meter D.text D.image disks.items r.0.items) }
     ensures cause { IfErr result (λ r. IsCause D.tells D.meter D.text D.image layout nodes.now losses.now disks.items r.0.items r.1) }
 {
     let Ok(mut servers) = Vec::with_capacity(alloc, nodes.len()) else {
@@ -62,8 +62,8 @@ fn open_one<D: Disk>(
     disk: D,
 ) -> Result<Server<Fused<D>>, (D, OpenFault)>
     requires node { IsNode node }
-    ensures made { IfOk result (λ s. IsOpened D.tells D.meter D.text D.image layout ((node, losses), disk) s) }
-    ensures back { IfErr result (λ r. IsKept D.meter D.text D.image disk r.0) }
+    ensures made { IfOk result (λ s. IsNodeOpened D.tells D.meter D.text D.image layout ((node, losses), disk) s) }
+    ensures back { IfErr result (λ r. IsDiskBack D.meter D.text D.image disk r.0) }
     ensures fault { IfErr result (λ r. IsFaultOf D.tells D.meter D.text layout node disk r.0 r.1) }
 {
     let geometry = Geometry {

@@ -7,11 +7,11 @@ use Rattle.rz_reader.specs.Machine.{Machine as Reader}
 use Rattle.rz_reader.specs.Told.{IsFetchedInto}
 use Rattle.rz_operation_model.specs.Work.{Reading, Alone}
 use Rattle.rz_operation_states.specs.declared.stage.OperationState.TheVariants as stage
-use Rattle.rz_operation_states.specs.Answers.{IsAnswered}
+use Rattle.rz_operation_states.specs.Answers.{FitsIfEnough}
 use Rattle.rz_operation_states.specs.Inside.{machine_of}
 
 pub fetched : (r new : Reader) (a : FetchAnswer) (bins : List ℕ) → IsFetchedInto r a bins new →
-    IsAnswered (machine_of r.state.layout (stage.Reading r)) (node.Fetch a) bins (machine_of r.state.layout (stage.Reading new))
+    FitsIfEnough (machine_of r.state.layout (stage.Reading r)) (node.Fetch a) bins (machine_of r.state.layout (stage.Reading new))
 fetched r new a bins h = (
   h.0,
   h.1,

@@ -7,7 +7,7 @@ ghost use Rattle.rz_operation_model.specs.Steps.{begun, planned, after_open, aft
 ghost use Rattle.rz_operation_model.specs.Work.{WriteBytes};
 ghost use Rattle.rz_operation_states.specs.Meaning.{path_in};
 ghost use Rattle.rz_operation_states.specs.Answers.{HasPlaces, IsOperation, IsWithinFile};
-ghost use Rattle.rz_operation_states.specs.Inside.{IsStage, IsPlan, IsFresh, IsQuiet, work_of, plan_of};
+ghost use Rattle.rz_operation_states.specs.Inside.{IsOperationState, IsOpenPlan, HasNoRecords, HasNoBlock, work_of, plan_of};
 
 use mj_angles::Layout;
 use rz_events::{Answer, Datum, FileInfo, Operation, Places, Text, TreeCall, TreeReply};
@@ -45,7 +45,7 @@ fn blank(layout: Layout) -> FileInfo
 pub fn begun(alloc: Global, layout: Layout, op: Operation) -> Result<OperationState, AllocError>
     requires { IsOperation layout op }
     ensures work { IfOk result (λ s. work_of s ≡ begun op) }
-    ensures inside { IfOk result (λ s. IsStage layout s) }
+    ensures inside { IfOk result (λ s. IsOperationState layout s) }
 {
     match op {
         Operation::Tree(call) => Ok(OperationState::Calling(call)),
@@ -96,7 +96,7 @@ pub fn begun_par<R: Threads + Sync>(
 ) -> Result<OperationState, AllocError>
     requires { IsOperation layout op }
     ensures work { IfOk result (λ s. work_of s ≡ begun op) }
-    ensures inside { IfOk result (λ s. IsStage layout s) }
+    ensures inside { IfOk result (λ s. IsOperationState layout s) }
 {
     match op {
         Operation::Write {
@@ -129,7 +129,7 @@ fn put(
 ) -> Result<OperationState, AllocError>
     requires { length (bytes_of datum) ≤ block_bytes_of layout }
     ensures work { IfOk result (λ s. work_of s ≡ begun (Operation.Put path block datum)) }
-    ensures inside { IfOk result (λ s. IsStage layout s) }
+    ensures inside { IfOk result (λ s. IsOperationState layout s) }
 {
     let text = text_of(alloc, datum)?;
     let writer = Writer::start(alloc, layout, &blank(layout), 0, b"")?;
@@ -147,7 +147,7 @@ fn put(
 /// The read of a block begins.
 fn get(alloc: Global, layout: Layout, path: Text, block: u64) -> Result<OperationState, AllocError>
     ensures work { IfOk result (λ s. work_of s ≡ begun (Operation.Get path block)) }
-    ensures inside { IfOk result (λ s. IsStage layout s) }
+    ensures inside { IfOk result (λ s. IsOperationState layout s) }
 {
     let reader = Reader::start(alloc, layout, &blank(layout), 0)?;
     Ok(opening(layout, path, OpenPlan::Get { block, reader }))
@@ -156,7 +156,7 @@ fn get(alloc: Global, layout: Layout, path: Text, block: u64) -> Result<Operatio
 /// The rebuild of a node begins.
 fn rebuild(alloc: Global, layout: Layout, node: u16) -> Result<OperationState, AllocError>
     ensures work { IfOk result (λ s. work_of s ≡ begun (Operation.Rebuild node)) }
-    ensures inside { IfOk result (λ s. IsStage layout s) }
+    ensures inside { IfOk result (λ s. IsOperationState layout s) }
 {
     let rebuilder = Rebuilder::start(alloc, layout, node)?;
     Ok(OperationState::Rebuilding { node, rebuilder })
@@ -164,9 +164,9 @@ fn rebuild(alloc: Global, layout: Layout, node: u16) -> Result<OperationState, A
 
 /// The file at a path is opened.
 fn opening(layout: Layout, path: Text, plan: OpenPlan) -> OperationState
-    requires { IsPlan layout plan }
+    requires { IsOpenPlan layout plan }
     ensures work { result ≡ OperationState.Opening (TreeCall.OpenFile path) plan }
-    ensures inside { IsStage layout result }
+    ensures inside { IsOperationState layout result }
 {
     let call = TreeCall::OpenFile { path };
     OperationState::Opening { call, plan }
@@ -177,7 +177,7 @@ fn locking(layout: Layout, path: Text, plan: FilePlan) -> OperationState
     requires layout { plan.layout ≡ layout }
     requires within { IsWithinFile plan.plan }
     ensures work { result ≡ OperationState.Locking (TreeCall.OpenFile path) plan }
-    ensures inside { IsStage layout result }
+    ensures inside { IsOperationState layout result }
 {
     let call = TreeCall::OpenFile { path };
     OperationState::Locking { call, plan }
@@ -253,7 +253,7 @@ fn made(alloc: Global, length: u32, seed: u8) -> Result<Text, AllocError>
 /// How a call on names goes on.
 pub fn after_call(answer: TreeReply) -> OperationState
     ensures work { work_of result ≡ after_call answer }
-    ensures quiet { IsQuiet result }
+    ensures quiet { HasNoBlock result }
 {
     match answer {
         TreeReply::Made { fid } => OperationState::Ending(Answer::Created { fid }),
@@ -272,11 +272,11 @@ pub fn after_call(answer: TreeReply) -> OperationState
 
 /// How an operation goes on after its file was opened, or not.
 pub fn after_open(layout: Layout, plan: OpenPlan, answer: &TreeReply) -> OperationState
-    requires plan { IsPlan layout plan }
+    requires plan { IsOpenPlan layout plan }
     requires places { HasPlaces layout answer.now }
     ensures work { work_of result ≡ after_open layout (plan_of plan) answer.now }
-    ensures inside { IsStage layout result }
-    ensures fresh { IsFresh result }
+    ensures inside { IsOperationState layout result }
+    ensures fresh { HasNoRecords result }
 {
     match answer {
         TreeReply::File(info) => planned(layout, info, plan),
@@ -293,11 +293,11 @@ pub fn after_open(layout: Layout, plan: OpenPlan, answer: &TreeReply) -> Operati
 
 /// How an operation goes on with its file open.
 fn planned(layout: Layout, info: &FileInfo, plan: OpenPlan) -> OperationState
-    requires plan { IsPlan layout plan }
+    requires plan { IsOpenPlan layout plan }
     requires places { length info.now.places ≡ safe_of layout }
     ensures work { work_of result ≡ planned layout info.now (plan_of plan) }
-    ensures inside { IsStage layout result }
-    ensures fresh { IsFresh result }
+    ensures inside { IsOperationState layout result }
+    ensures fresh { HasNoRecords result }
 {
     match plan {
         OpenPlan::Put {
@@ -323,8 +323,8 @@ fn write_block(
     requires short { length text ≤ block_bytes_of layout }
     requires places { length info.now.places ≡ safe_of layout }
     ensures work { work_of result ≡ planned layout info.now (plan_of (OpenPlan.Put block writer text)) }
-    ensures inside { IsStage layout result }
-    ensures fresh { IsFresh result }
+    ensures inside { IsOperationState layout result }
+    ensures fresh { HasNoRecords result }
 {
     writer.again(info, block, text.bytes());
     OperationState::Writing { writer, text }
@@ -335,8 +335,8 @@ fn read_block(layout: Layout, info: &FileInfo, block: u64, mut reader: Reader) -
     requires layout { reader.state.layout ≡ layout }
     requires places { length info.now.places ≡ safe_of layout }
     ensures work { work_of result ≡ planned layout info.now (plan_of (OpenPlan.Get block reader)) }
-    ensures inside { IsStage layout result }
-    ensures fresh { IsFresh result }
+    ensures inside { IsOperationState layout result }
+    ensures fresh { HasNoRecords result }
 {
     reader.again(info, block);
     OperationState::Reading(reader)
@@ -356,8 +356,8 @@ pub fn after_locked(
     requires within { IsWithinFile plan.plan }
     requires places { HasPlaces layout answer.now }
     ensures work { work_of result ≡ after_lock layout (path_in call) plan.plan granted answer.now }
-    ensures inside { IsStage layout result }
-    ensures fresh { IsFresh result }
+    ensures inside { IsOperationState layout result }
+    ensures fresh { HasNoRecords result }
 {
     if granted {
         drop(call);

@@ -6,7 +6,7 @@ ghost use Rattle.rz_operation_model.specs.Steps.{begun, Replied, Locked, Missed,
 ghost use Rattle.rz_operation_states.specs.Meaning.{meaning_of};
 ghost use Rattle.rz_operation_states.specs.Machine.{is_over, HasBins, AreBins, HasText, text_of};
 ghost use Rattle.rz_operation_states.specs.Records.{HasHead, IsCount};
-ghost use Rattle.rz_operation_states.specs.Answers.{IsOperation, IsReply, IsLockReply, IsAnswer, ComeWith, MayMiss, IsPartSaid, IsDone, Goes, IsAnswered};
+ghost use Rattle.rz_operation_states.specs.Answers.{IsOperation, IsReply, IsLockReply, IsAnswer, ComeWith, MayMiss, IsPartSaid, IsDone, IsWorkAfter, FitsIfEnough};
 
 use crate::begins::{begun, begun_par};
 use crate::replies::{after_answer, after_lock, after_miss, after_reply, after_said, answer_in};
@@ -39,11 +39,11 @@ impl Model for Machine {
 
     ghost Value = { TheMachine };
 
-    ghost use Rattle.rz_operation_states.specs.Inside.{machine_of, IsStage};
+    ghost use Rattle.rz_operation_states.specs.Inside.{machine_of, IsOperationState};
 
     ghost view = { λ m. machine_of m.layout m.stage };
 
-    ghost invariant = { λ m. IsStage m.layout m.stage };
+    ghost invariant = { λ m. IsOperationState m.layout m.stage };
 }
 
 impl Machine {
@@ -103,7 +103,7 @@ impl Machine {
     /// Takes the reply of the export.
     pub fn tell_reply(&mut self, reply: Reply)
         requires { IsReply self.old.layout (ask_of self.old.layout self.old.work) reply }
-        ensures { Goes self.old self.old.pairs (Replied reply) self.new }
+        ensures { IsWorkAfter self.old self.old.pairs (Replied reply) self.new }
     {
         let stage = replace(&mut self.stage, OperationState::Over);
         let next = after_reply(self.layout, stage, reply);
@@ -113,7 +113,7 @@ impl Machine {
     /// Takes the reply of the export to an open with a lock, and whether the lock was granted.
     pub fn tell_locked(&mut self, granted: bool, reply: Reply)
         requires { IsLockReply self.old.layout (ask_of self.old.layout self.old.work) reply }
-        ensures { Goes self.old self.old.pairs (Locked granted reply) self.new }
+        ensures { IsWorkAfter self.old self.old.pairs (Locked granted reply) self.new }
     {
         let stage = replace(&mut self.stage, OperationState::Over);
         let next = after_lock(self.layout, stage, granted, reply);
@@ -124,7 +124,7 @@ impl Machine {
     pub fn tell_answer(&mut self, answer: NodeAnswer, bins: &[u64])
         requires asked { IsAnswer self.old.layout (ask_of self.old.layout self.old.work) answer }
         requires bins { ComeWith self.old.layout (ask_of self.old.layout self.old.work) answer bins.now }
-        ensures { IsAnswered self.old answer bins.now self.new }
+        ensures { FitsIfEnough self.old answer bins.now self.new }
     {
         let stage = replace(&mut self.stage, OperationState::Over);
         let next = after_answer(self.layout, stage, answer, bins);
@@ -134,7 +134,7 @@ impl Machine {
     /// Takes it that the message to the node, or its answer, was lost.
     pub fn tell_missed(&mut self)
         requires asked { MayMiss (ask_of self.old.layout self.old.work) }
-        ensures { Goes self.old self.old.pairs Missed self.new }
+        ensures { IsWorkAfter self.old self.old.pairs Missed self.new }
     {
         let stage = replace(&mut self.stage, OperationState::Over);
         let next = after_miss(self.layout, stage);
@@ -144,7 +144,7 @@ impl Machine {
     /// Takes it that the end of a block was said, or that a block was left.
     pub fn tell_said(&mut self)
         requires asked { IsPartSaid (ask_of self.old.layout self.old.work) }
-        ensures { Goes self.old self.old.pairs (Noted (text_of self.old)) self.new }
+        ensures { IsWorkAfter self.old self.old.pairs (Noted (text_of self.old)) self.new }
     {
         let stage = replace(&mut self.stage, OperationState::Over);
         let next = after_said(self.layout, stage);
@@ -155,7 +155,7 @@ impl Machine {
     pub fn finish(&mut self) -> Answer
         requires { IsDone (ask_of self.old.layout self.old.work) }
         ensures answer { ask_of self.old.layout self.old.work ≡ Say (SayDone result) }
-        ensures goes { Goes self.old self.old.pairs (Noted []) self.new }
+        ensures goes { IsWorkAfter self.old self.old.pairs (Noted []) self.new }
     {
         let stage = replace(&mut self.stage, OperationState::Over);
         answer_in(stage)

@@ -3,9 +3,9 @@
 ghost use Rattle.std.specs.Prelude.{◌≡◌};
 ghost use Rattle.rz_operation_model.specs.Ask.{ask_of};
 ghost use Rattle.rz_operation_model.specs.Steps.{Replied, Locked, Missed, Noted};
-ghost use Rattle.rz_operation_states.specs.Answers.{IsReply, IsLockReply, IsAnswer, ComeWith, MayMiss, IsPartSaid, Goes, IsAnswered, IsDrop, IsKeep, IsTreeReply};
+ghost use Rattle.rz_operation_states.specs.Answers.{IsReply, IsLockReply, IsAnswer, ComeWith, MayMiss, IsPartSaid, IsWorkAfter, FitsIfEnough, IsDrop, IsKeep, IsTreeReply};
 ghost use Rattle.rz_operation_states.specs.Machine.{text_of};
-ghost use Rattle.rz_operation_states.specs.Inside.{IsStage, IsDoneStage, IsAnswerIn, machine_of, work_of};
+ghost use Rattle.rz_operation_states.specs.Inside.{IsOperationState, IsDoneStage, IsAnswerIn, machine_of, work_of};
 
 use crate::begins::{after_call, after_locked, after_open};
 use mj_angles::Layout;
@@ -22,10 +22,10 @@ use rz_operation_states::rebuilds::{
 
 /// How the operation goes on after a reply of the export.
 pub fn after_reply(layout: Layout, stage: OperationState, reply: Reply) -> OperationState
-    requires inside { IsStage layout stage }
+    requires inside { IsOperationState layout stage }
     requires asked { IsReply layout (ask_of layout (work_of stage)) reply }
-    ensures goes { Goes (machine_of layout stage) (machine_of layout stage).pairs (Replied reply) (machine_of layout result) }
-    ensures inside { IsStage layout result }
+    ensures goes { IsWorkAfter (machine_of layout stage) (machine_of layout stage).pairs (Replied reply) (machine_of layout result) }
+    ensures inside { IsOperationState layout result }
 {
     match stage {
         OperationState::Calling(call) => {
@@ -73,10 +73,10 @@ pub fn after_lock(
     granted: bool,
     reply: Reply,
 ) -> OperationState
-    requires inside { IsStage layout stage }
+    requires inside { IsOperationState layout stage }
     requires asked { IsLockReply layout (ask_of layout (work_of stage)) reply }
-    ensures goes { Goes (machine_of layout stage) (machine_of layout stage).pairs (Locked granted reply) (machine_of layout result) }
-    ensures inside { IsStage layout result }
+    ensures goes { IsWorkAfter (machine_of layout stage) (machine_of layout stage).pairs (Locked granted reply) (machine_of layout result) }
+    ensures inside { IsOperationState layout result }
 {
     match stage {
         OperationState::Locking { call, plan } => {
@@ -104,11 +104,11 @@ pub fn after_answer(
     answer: NodeAnswer,
     bins: &[u64],
 ) -> OperationState
-    requires inside { IsStage layout stage }
+    requires inside { IsOperationState layout stage }
     requires asked { IsAnswer layout (ask_of layout (work_of stage)) answer }
     requires bins { ComeWith layout (ask_of layout (work_of stage)) answer bins.now }
-    ensures goes { IsAnswered (machine_of layout stage) answer bins.now (machine_of layout result) }
-    ensures inside { IsStage layout result }
+    ensures goes { FitsIfEnough (machine_of layout stage) answer bins.now (machine_of layout result) }
+    ensures inside { IsOperationState layout result }
 {
     match stage {
         OperationState::Writing { mut writer, text } => {
@@ -139,10 +139,10 @@ pub fn after_answer(
 
 /// How the operation goes on after a message to a node, or its answer, was lost.
 pub fn after_miss(layout: Layout, stage: OperationState) -> OperationState
-    requires inside { IsStage layout stage }
+    requires inside { IsOperationState layout stage }
     requires asked { MayMiss (ask_of layout (work_of stage)) }
-    ensures goes { Goes (machine_of layout stage) (machine_of layout stage).pairs Missed (machine_of layout result) }
-    ensures inside { IsStage layout result }
+    ensures goes { IsWorkAfter (machine_of layout stage) (machine_of layout stage).pairs Missed (machine_of layout result) }
+    ensures inside { IsOperationState layout result }
 {
     match stage {
         OperationState::Writing { mut writer, text } => {
@@ -166,10 +166,10 @@ pub fn after_miss(layout: Layout, stage: OperationState) -> OperationState
 
 /// How the operation goes on after the end of its block was said.
 pub fn after_said(layout: Layout, stage: OperationState) -> OperationState
-    requires inside { IsStage layout stage }
+    requires inside { IsOperationState layout stage }
     requires asked { IsPartSaid (ask_of layout (work_of stage)) }
-    ensures goes { Goes (machine_of layout stage) (machine_of layout stage).pairs (Noted (text_of (machine_of layout stage))) (machine_of layout result) }
-    ensures inside { IsStage layout result }
+    ensures goes { IsWorkAfter (machine_of layout stage) (machine_of layout stage).pairs (Noted (text_of (machine_of layout stage))) (machine_of layout result) }
+    ensures inside { IsOperationState layout result }
 {
     match stage {
         OperationState::Writing { writer, text } => {

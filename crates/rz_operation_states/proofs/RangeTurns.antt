@@ -30,13 +30,13 @@ use Rattle.rz_operation_model.specs.Files.{FileState, Reads, Writes, Ended, ask_
 use Rattle.rz_operation_model.specs.Work.{RangePlan, WriteBytes, ReadBytes, Within, Reading, Writing}
 use Rattle.rz_operation_model.specs.Ask.{ask_of}
 use Rattle.rz_operation_model.specs.Steps.{Told, Replied, Answered, Missed, Noted, told, in_range, range_planned, reader_after, writer_after, said_writing}
-use Rattle.rz_file.specs.Machine.{Machine as FileMachine, begun, Goes as FileGoes, IsAnswered as IsFileAnswered, text_in, text_found as found_text, pairs_in as file_pairs, IsBlockIn as IsFileBlock, pairs_fetched as file_fetched}
+use Rattle.rz_file.specs.Machine.{Machine as FileMachine, begun, IsRangeAfter as FileGoes, FitsIfEnough as IsFileAnswered, text_in, text_found as found_text, pairs_in as file_pairs, IsBlockIn as IsFileBlock, pairs_fetched as file_fetched}
 use Rattle.rz_operation_states.specs.declared.stage.OperationState.{OperationState}
 use Rattle.rz_operation_states.specs.declared.stage.OperationState.TheVariants as stage
 use Rattle.rz_operation_states.specs.Machine.{text_found, text_asked}
 use Rattle.rz_operation_states.specs.Told.{read_answer, write_answer, as_read, as_write, reply_to, range_reply, range_told, miss_to, range_miss}
-use Rattle.rz_operation_states.specs.Answers.{MayMiss, pairs_in, pairs_fetched, IsBlockIn, Goes, IsAnswered}
-use Rattle.rz_operation_states.specs.Inside.{IsOpen, IsRangeStage, IsStage, machine_of, work_of}
+use Rattle.rz_operation_states.specs.Answers.{MayMiss, pairs_in, pairs_fetched, IsBlockIn, IsWorkAfter, FitsIfEnough}
+use Rattle.rz_operation_states.specs.Inside.{IsRangeOpen, IsRangeStage, IsOperationState, machine_of, work_of}
 
 -- Pairs and block are those of the range.
 
@@ -61,12 +61,12 @@ same-fetched layout (Ended r end) pairs a bins = refl
 
 settled-goes : (file new_file : FileMachine) (had : List Pair) (t : Told) (next : FileState) (new : OperationState) → FileGoes file had next new_file →
     told file.layout (in_range file.state) t ≡ in_range next → IsRangeStage new_file new_file.state new →
-    Goes (machine_of file.layout (stage.Ranging file)) had t (machine_of file.layout new)
+    IsWorkAfter (machine_of file.layout (stage.Ranging file)) had t (machine_of file.layout new)
 settled-goes file new_file had t next new goes same is = go new_file.state refl is
   where
-    under-way : new ≡ stage.Ranging new_file → Goes (machine_of file.layout (stage.Ranging file)) had t (machine_of file.layout new)
+    under-way : new ≡ stage.Ranging new_file → IsWorkAfter (machine_of file.layout (stage.Ranging file)) had t (machine_of file.layout new)
     under-way here =
-        subst (λ (x : OperationState). Goes (machine_of file.layout (stage.Ranging file)) had t (machine_of file.layout x)) (sym here)
+        subst (λ (x : OperationState). IsWorkAfter (machine_of file.layout (stage.Ranging file)) had t (machine_of file.layout x)) (sym here)
         (record {
           layout = refl;
           work = ap in_range goes.state ∙ sym same;
@@ -74,11 +74,11 @@ settled-goes file new_file had t next new goes same is = go new_file.state refl 
           block = same-block file.layout new_file.state had new_file.block goes.block;
         })
 
-    go : (state : FileState) → new_file.state ≡ state → IsRangeStage new_file state new → Goes (machine_of file.layout (stage.Ranging file)) had t (machine_of file.layout new)
+    go : (state : FileState) → new_file.state ≡ state → IsRangeStage new_file state new → IsWorkAfter (machine_of file.layout (stage.Ranging file)) had t (machine_of file.layout new)
     go (Reads r s) at here = under-way here
     go (Writes r text s) at here = under-way here
     go (Ended r end) at here =
-        subst (λ (x : OperationState). Goes (machine_of file.layout (stage.Ranging file)) had t (machine_of file.layout x)) (sym here)
+        subst (λ (x : OperationState). IsWorkAfter (machine_of file.layout (stage.Ranging file)) had t (machine_of file.layout x)) (sym here)
         (record {
           layout = refl;
           work = ap in_range (sym at ∙ goes.state) ∙ sym same;
@@ -86,12 +86,12 @@ settled-goes file new_file had t next new goes same is = go new_file.state refl 
           block = refl;
         })
 
-pub settled-inside : (y : Layout) (file : FileMachine) (state : FileState) (new : OperationState) → file.layout ≡ y → file.state ≡ state → IsRangeStage file state new → IsStage y new
+pub settled-inside : (y : Layout) (file : FileMachine) (state : FileState) (new : OperationState) → file.layout ≡ y → file.state ≡ state → IsRangeStage file state new → IsOperationState y new
 settled-inside y file (Reads r s) new same at is =
-    subst (λ (x : OperationState). IsStage y x) (sym is) (record { layout = same; going = subst (λ (z : FileState). IsOpen z) (sym at) tt })
+    subst (λ (x : OperationState). IsOperationState y x) (sym is) (record { layout = same; going = subst (λ (z : FileState). IsRangeOpen z) (sym at) tt })
 settled-inside y file (Writes r text s) new same at is =
-    subst (λ (x : OperationState). IsStage y x) (sym is) (record { layout = same; going = subst (λ (z : FileState). IsOpen z) (sym at) tt })
-settled-inside y file (Ended r end) new same at is = subst (λ (x : OperationState). IsStage y x) (sym is) tt
+    subst (λ (x : OperationState). IsOperationState y x) (sym is) (record { layout = same; going = subst (λ (z : FileState). IsRangeOpen z) (sym at) tt })
+settled-inside y file (Ended r end) new same at is = subst (λ (x : OperationState). IsOperationState y x) (sym is) tt
 
 pub settled-work : (file : FileMachine) (state : FileState) (new : OperationState) → file.state ≡ state → IsRangeStage file state new → work_of new ≡ in_range state
 settled-work file (Reads r s) new at is = ap (λ (x : OperationState). work_of x) is ∙ ap (λ (z : FileState). in_range z) at
@@ -173,7 +173,7 @@ module _ (file new_file : FileMachine) (bins : List ℕ) where
 
   module _ (new : OperationState) (is : IsRangeStage new_file new_file.state new) where
     pub replied : (x : Reply) (a : FileAnswer) → range_reply file.state x ≡ Some a → IsFileAnswered file a bins new_file →
-        Goes (machine_of file.layout (stage.Ranging file)) file.pairs (Replied x) (machine_of file.layout new)
+        IsWorkAfter (machine_of file.layout (stage.Ranging file)) file.pairs (Replied x) (machine_of file.layout new)
     replied x a same h =
         settled-goes file new_file file.pairs (Replied x) _ new (no-record (file_ask file.state) x a same h)
         (told-reply file.layout (text_in file.state file.block) file.state x a same) is
@@ -193,15 +193,15 @@ module _ (file new_file : FileMachine) (bins : List ℕ) where
     told-keep found (Ended r end) a = refl
 
     fetched : (a : FetchAnswer) → IsFileAnswered file (files.Read (reads.Fetched a)) bins new_file →
-        IsAnswered (machine_of file.layout (stage.Ranging file)) (node.Fetch a) bins (machine_of file.layout new)
+        FitsIfEnough (machine_of file.layout (stage.Ranging file)) (node.Fetch a) bins (machine_of file.layout new)
     fetched a h =
         subst (λ (ps : List Pair). (fits : Bool) × AreFitting file.layout ps fits
-        × Goes (machine_of file.layout (stage.Ranging file)) ps (Answered fits (node.Fetch a)) (machine_of file.layout new))
+        × IsWorkAfter (machine_of file.layout (stage.Ranging file)) ps (Answered fits (node.Fetch a)) (machine_of file.layout new))
         (same-fetched file.layout file.state file.pairs a bins)
         (h.0, h.1, settled-goes file new_file _ (Answered h.0 (node.Fetch a)) _ new h.2 (told-fetch file.state h.0 a) is)
 
     pub answered : (answer : NodeAnswer) (a : FileAnswer) → range_told answer ≡ Some a → IsFileAnswered file a bins new_file →
-        IsAnswered (machine_of file.layout (stage.Ranging file)) answer bins (machine_of file.layout new)
+        FitsIfEnough (machine_of file.layout (stage.Ranging file)) answer bins (machine_of file.layout new)
     answered (node.Fetch f) a same h = fetched f (subst (λ y. IsFileAnswered file y bins new_file) (sym (ap given same)) h)
     answered (node.Keep k) a same h =
         let goes : GoesBy (files.Write (writes.Kept k)) = subst (λ y. IsFileAnswered file y bins new_file) (sym (ap given same)) h in
@@ -216,7 +216,7 @@ module _ (file new_file : FileMachine) (bins : List ℕ) where
     read-missed found r s (reading.Fetching t) may = refl
     read-missed found r s (reading.Ended m) may = absurd may
 
-    told-missed : (found : List ℕ) (state : FileState) → IsOpen state → MayMiss (ask_of file.layout (in_range state)) →
+    told-missed : (found : List ℕ) (state : FileState) → IsRangeOpen state → MayMiss (ask_of file.layout (in_range state)) →
         told file.layout (in_range state) Missed ≡ in_range (file_told file.layout true found state (range_miss state))
     told-missed found (Reads r s) going may = read-missed found r s s.stage may
     told-missed found (Writes r text s) going may = go (writer_end s)
@@ -227,8 +227,8 @@ module _ (file new_file : FileMachine) (bins : List ℕ) where
         go (Some e) = refl
     told-missed found (Ended r end) going may = absurd going
 
-    pub missed : IsOpen file.state → MayMiss (ask_of file.layout (in_range file.state)) → IsFileAnswered file (range_miss file.state) bins new_file →
-        Goes (machine_of file.layout (stage.Ranging file)) file.pairs Missed (machine_of file.layout new)
+    pub missed : IsRangeOpen file.state → MayMiss (ask_of file.layout (in_range file.state)) → IsFileAnswered file (range_miss file.state) bins new_file →
+        IsWorkAfter (machine_of file.layout (stage.Ranging file)) file.pairs Missed (machine_of file.layout new)
     missed going may h =
         settled-goes file new_file file.pairs Missed _ new (no-record-missed (file_ask file.state) h)
         (told-missed (text_in file.state file.block) file.state going may) is
@@ -251,7 +251,7 @@ module _ (file new_file : FileMachine) (bins : List ℕ) where
     read-noted block r s (reading.Fetching t) = refl
     read-noted block r s (reading.Ended m) = ap (λ text. in_range (after_part file.layout r text m)) (same-text m block)
 
-    told-noted : (block : Option Grid) (state : FileState) → IsOpen state →
+    told-noted : (block : Option Grid) (state : FileState) → IsRangeOpen state →
         told file.layout (in_range state) (Noted (text_asked block (ask_of file.layout (in_range state)))) ≡ in_range (file_told file.layout true (text_in state block) state files.Noted)
     told-noted block (Reads r s) going = read-noted block r s s.stage
     told-noted block (Writes r text s) going = go (writer_end s)
@@ -261,6 +261,6 @@ module _ (file new_file : FileMachine) (bins : List ℕ) where
         go (Some e) = refl
     told-noted block (Ended r end) going = absurd going
 
-    pub noted : IsOpen file.state → IsFileAnswered file files.Noted bins new_file →
-        Goes (machine_of file.layout (stage.Ranging file)) file.pairs (Noted (text_asked file.block (ask_of file.layout (in_range file.state)))) (machine_of file.layout new)
+    pub noted : IsRangeOpen file.state → IsFileAnswered file files.Noted bins new_file →
+        IsWorkAfter (machine_of file.layout (stage.Ranging file)) file.pairs (Noted (text_asked file.block (ask_of file.layout (in_range file.state)))) (machine_of file.layout new)
     noted going h = settled-goes file new_file file.pairs _ _ new h (told-noted file.block file.state going) is

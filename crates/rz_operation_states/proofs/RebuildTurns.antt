@@ -13,12 +13,12 @@ use Rattle.rz_events.specs.declared.machines.RebuildAnswer.TheVariants as rebuil
 use Rattle.rz_operation_model.specs.Rebuild.{Rebuild, Going, Ended, rebuild_told}
 use Rattle.rz_operation_model.specs.Steps.{Told, Replied, Answered, Missed, Noted, told, in_rebuild}
 use Rattle.rz_reader.specs.Machine.{AreFitting}
-use Rattle.rz_rebuild.specs.Machine.{Machine as Rebuilder, Goes as RebuildGoes, IsAnswered as IsRebuildAnswered, told_in, pairs_in as rebuild_pairs, IsBlockIn as IsRebuildBlock, pairs_fetched as rebuild_fetched}
+use Rattle.rz_rebuild.specs.Machine.{Machine as Rebuilder, IsRebuildAfter as RebuildGoes, FitsIfEnough as IsRebuildAnswered, told_in, pairs_in as rebuild_pairs, IsBlockIn as IsRebuildBlock, pairs_fetched as rebuild_fetched}
 use Rattle.rz_operation_states.specs.declared.stage.OperationState.{OperationState}
 use Rattle.rz_operation_states.specs.declared.stage.OperationState.TheVariants as stage
 use Rattle.rz_operation_states.specs.Told.{rebuild_reply, rebuild_answer}
-use Rattle.rz_operation_states.specs.Answers.{pairs_in, pairs_fetched, IsBlockIn, Goes, IsAnswered}
-use Rattle.rz_operation_states.specs.Inside.{IsGoing, IsRebuildStage, machine_of}
+use Rattle.rz_operation_states.specs.Answers.{pairs_in, pairs_fetched, IsBlockIn, IsWorkAfter, FitsIfEnough}
+use Rattle.rz_operation_states.specs.Inside.{IsGoing, IsRebuildState, machine_of}
 
 -- Pairs and block are those of the rebuild.
 
@@ -77,13 +77,13 @@ noted layout n (Ended end) text going = absurd going
 -- How the operation goes on.
 
 pub settled-goes : (n : ℕ) (b b' : Rebuilder) (had : List Pair) (t : Told) (next : Rebuild) (new : OperationState) → RebuildGoes b had next b' →
-    told b.layout (in_rebuild n b.state) t ≡ in_rebuild n next → IsRebuildStage n b' b'.state new →
-    Goes (machine_of b.layout (stage.Rebuilding n b)) had t (machine_of b.layout new)
+    told b.layout (in_rebuild n b.state) t ≡ in_rebuild n next → IsRebuildState n b' b'.state new →
+    IsWorkAfter (machine_of b.layout (stage.Rebuilding n b)) had t (machine_of b.layout new)
 settled-goes n b b' had t next new goes same is = go b'.state refl is
   where
-    go : (state : Rebuild) → b'.state ≡ state → IsRebuildStage n b' state new → Goes (machine_of b.layout (stage.Rebuilding n b)) had t (machine_of b.layout new)
+    go : (state : Rebuild) → b'.state ≡ state → IsRebuildState n b' state new → IsWorkAfter (machine_of b.layout (stage.Rebuilding n b)) had t (machine_of b.layout new)
     go (Going s) at here =
-        subst (λ (x : OperationState). Goes (machine_of b.layout (stage.Rebuilding n b)) had t (machine_of b.layout x)) (sym here)
+        subst (λ (x : OperationState). IsWorkAfter (machine_of b.layout (stage.Rebuilding n b)) had t (machine_of b.layout x)) (sym here)
         (record {
           layout = refl;
           work = ap (in_rebuild n) goes.state ∙ sym same;
@@ -91,7 +91,7 @@ settled-goes n b b' had t next new goes same is = go b'.state refl is
           block = same-block b.layout n b'.state had b'.block goes.block;
         })
     go (Ended end) at here =
-        subst (λ (x : OperationState). Goes (machine_of b.layout (stage.Rebuilding n b)) had t (machine_of b.layout x)) (sym here)
+        subst (λ (x : OperationState). IsWorkAfter (machine_of b.layout (stage.Rebuilding n b)) had t (machine_of b.layout x)) (sym here)
         (record {
           layout = refl;
           work = ap (in_rebuild n) (sym at ∙ goes.state) ∙ sym same;
@@ -99,11 +99,11 @@ settled-goes n b b' had t next new goes same is = go b'.state refl is
           block = refl;
         })
 
-module _ (n : ℕ) (b b' : Rebuilder) (bins : List ℕ) (new : OperationState) (going : IsGoing b.state) (is : IsRebuildStage n b' b'.state new) where
+module _ (n : ℕ) (b b' : Rebuilder) (bins : List ℕ) (new : OperationState) (going : IsGoing b.state) (is : IsRebuildState n b' b'.state new) where
   -- an answer of a node that tells the rebuild `a`
   goes-on : (answer : NodeAnswer) (a : RebuildAnswer) → told b.layout (in_rebuild n b.state) (Answered true answer) ≡ in_rebuild n (told_in b.layout true b.state a) →
       RebuildGoes b b.pairs (told_in b.layout true b.state a) b' →
-      Goes (machine_of b.layout (stage.Rebuilding n b)) b.pairs (Answered true answer) (machine_of b.layout new)
+      IsWorkAfter (machine_of b.layout (stage.Rebuilding n b)) b.pairs (Answered true answer) (machine_of b.layout new)
   goes-on answer a same goes = settled-goes n b b' b.pairs (Answered true answer) (told_in b.layout true b.state a) new goes same is
 
   told-probe : (state : Rebuild) (loss : Option ℕ) → IsGoing state →
@@ -127,15 +127,15 @@ module _ (n : ℕ) (b b' : Rebuilder) (bins : List ℕ) (new : OperationState) (
   told-fetch (Ended end) fits a g = absurd g
 
   fetched : (a : FetchAnswer) → IsRebuildAnswered b (rebuilds.Fetched a) bins b' →
-      IsAnswered (machine_of b.layout (stage.Rebuilding n b)) (node.Fetch a) bins (machine_of b.layout new)
+      FitsIfEnough (machine_of b.layout (stage.Rebuilding n b)) (node.Fetch a) bins (machine_of b.layout new)
   fetched a h =
       subst (λ (ps : List Pair). (fits : Bool) × AreFitting b.layout ps fits
-      × Goes (machine_of b.layout (stage.Rebuilding n b)) ps (Answered fits (node.Fetch a)) (machine_of b.layout new))
+      × IsWorkAfter (machine_of b.layout (stage.Rebuilding n b)) ps (Answered fits (node.Fetch a)) (machine_of b.layout new))
       (same-fetched b.layout n b.state b.pairs a bins)
       (h.0, h.1, settled-goes n b b' _ (Answered h.0 (node.Fetch a)) _ new h.2 (told-fetch b.state h.0 a going) is)
 
   pub answered : (answer : NodeAnswer) (a : RebuildAnswer) → rebuild_answer answer ≡ Some a → IsRebuildAnswered b a bins b' →
-      IsAnswered (machine_of b.layout (stage.Rebuilding n b)) answer bins (machine_of b.layout new)
+      FitsIfEnough (machine_of b.layout (stage.Rebuilding n b)) answer bins (machine_of b.layout new)
   answered (node.Probe loss) a same h =
       goes-on (node.Probe loss) (rebuilds.Probed loss) (told-probe b.state loss going) (subst (λ x. IsRebuildAnswered b x bins b') (sym (ap given same)) h)
   answered (node.Replace r) a same h =

@@ -204,17 +204,17 @@ IsBlockIn layout pairs work block = block ≡ None
 -- What an answer makes of a machine.
 
 -- the work goes on by what was told; these were the pairs before the work went on
-pub record Goes (m : Machine) (had : List Pair) (t : Told) (new : Machine) : Type 0 where
+pub record IsWorkAfter (m : Machine) (had : List Pair) (t : Told) (new : Machine) : Type 0 where
   pub layout : new.layout ≡ m.layout
   pub work : new.work ≡ told m.layout m.work t
   pub pairs : new.pairs ≡ pairs_in new.work had
   pub block : IsBlockIn m.layout had new.work new.block
 
 -- where the records are enough, they fit exactly where some block has them
-abbrev pub IsAnswered : Machine → NodeAnswer → List ℕ → Machine → Type 0
-IsAnswered m (answer.Fetch a) bins new = (fits : Bool) × AreFitting m.layout (pairs_fetched m.layout m.work m.pairs a bins) fits
-    × Goes m (pairs_fetched m.layout m.work m.pairs a bins) (Answered fits (answer.Fetch a)) new
-IsAnswered m a bins new = Goes m m.pairs (Answered true a) new
+abbrev pub FitsIfEnough : Machine → NodeAnswer → List ℕ → Machine → Type 0
+FitsIfEnough m (answer.Fetch a) bins new = (fits : Bool) × AreFitting m.layout (pairs_fetched m.layout m.work m.pairs a bins) fits
+    × IsWorkAfter m (pairs_fetched m.layout m.work m.pairs a bins) (Answered fits (answer.Fetch a)) new
+FitsIfEnough m a bins new = IsWorkAfter m m.pairs (Answered true a) new
 
 -- What the parts of a machine are told.
 

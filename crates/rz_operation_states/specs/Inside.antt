@@ -59,59 +59,59 @@ machine_of layout s = record { layout = layout; work = work_of s; pairs = pairs_
 -- What holds between two answers.
 
 -- a machine that waits has the memory of a block
-abbrev pub IsPlan : Layout → OpenPlan → Type 0
-IsPlan layout (plan.Put block writer text) = (writer.state.layout ≡ layout) × IsSome writer.block × (length text ≤ block_bytes_of layout)
-IsPlan layout (plan.Get block reader) = reader.state.layout ≡ layout
-IsPlan layout (plan.Range p) = p.layout ≡ layout
+abbrev pub IsOpenPlan : Layout → OpenPlan → Type 0
+IsOpenPlan layout (plan.Put block writer text) = (writer.state.layout ≡ layout) × IsSome writer.block × (length text ≤ block_bytes_of layout)
+IsOpenPlan layout (plan.Get block reader) = reader.state.layout ≡ layout
+IsOpenPlan layout (plan.Range p) = p.layout ≡ layout
 
 -- the writer writes the text
-pub record IsWritten (y : Layout) (text : List ℕ) (writer : WriterMachine) : Type 0 where
+pub record WritesText (y : Layout) (text : List ℕ) (writer : WriterMachine) : Type 0 where
   pub layout : writer.state.layout ≡ y
   pub block : writer.block ≡ Some (block_of y text)
   pub length : writer.state.length ≡ length text
 
 -- a range is under way
-abbrev pub IsOpen : FileState → Type 0
-IsOpen (FileEnded r end) = ⊥
-IsOpen state = Unit {0}
+abbrev pub IsRangeOpen : FileState → Type 0
+IsRangeOpen (FileEnded r end) = ⊥
+IsRangeOpen state = Unit {0}
 
 pub record IsRanging (y : Layout) (file : FileMachine) : Type 0 where
   pub layout : file.layout ≡ y
-  pub going : IsOpen file.state
+  pub going : IsRangeOpen file.state
 
 -- a rebuild is under way
 abbrev pub IsGoing : Rebuild → Type 0
 IsGoing (Going s) = Unit {0}
 IsGoing (Ended end) = ⊥
 
-pub record IsRebuilding (y : Layout) (n : ℕ) (rebuilder : Rebuilder) : Type 0 where
+pub record IsNodeRebuild (y : Layout) (n : ℕ) (rebuilder : Rebuilder) : Type 0 where
   pub layout : rebuilder.layout ≡ y
   pub node : rebuilder.node ≡ n
   pub going : IsGoing rebuilder.state
 
-abbrev pub IsStage : Layout → OperationState → Type 0
-IsStage layout (stage.Dropping fid places done) = done < length places
-IsStage layout (stage.Opening c p) = (c ≡ tree.OpenFile (path_in c)) × IsPlan layout p
-IsStage layout (stage.Locking c p) = (c ≡ tree.OpenFile (path_in c)) × (p.layout ≡ layout) × IsWithinFile p.plan
-IsStage layout (stage.Writing writer text) = IsWritten layout text writer
-IsStage layout (stage.Reading reader) = reader.state.layout ≡ layout
-IsStage layout (stage.Ranging file) = IsRanging layout file
-IsStage layout (stage.Rebuilding n rebuilder) = IsRebuilding layout n rebuilder
-IsStage layout s = Unit {0}
+abbrev pub IsOperationState : Layout → OperationState → Type 0
+IsOperationState layout (stage.Dropping fid places done) = done < length places
+IsOperationState layout (stage.Opening c p) = (c ≡ tree.OpenFile (path_in c)) × IsOpenPlan layout p
+IsOperationState layout (stage.Locking c p) = (c ≡ tree.OpenFile (path_in c)) × (p.layout ≡ layout) × IsWithinFile p.plan
+IsOperationState layout (stage.Writing writer text) = WritesText layout text writer
+IsOperationState layout (stage.Reading reader) = reader.state.layout ≡ layout
+IsOperationState layout (stage.Ranging file) = IsRanging layout file
+IsOperationState layout (stage.Rebuilding n rebuilder) = IsNodeRebuild layout n rebuilder
+IsOperationState layout s = Unit {0}
 
 -- nothing was fetched yet
-abbrev pub IsFresh : OperationState → Type 0
-IsFresh (stage.Reading reader) = (reader.pairs ≡ []) × (reader.block ≡ None)
-IsFresh (stage.Ranging file) = (file.pairs ≡ []) × (file.block ≡ None)
-IsFresh (stage.Rebuilding n rebuilder) = ⊥
-IsFresh s = Unit {0}
+abbrev pub HasNoRecords : OperationState → Type 0
+HasNoRecords (stage.Reading reader) = (reader.pairs ≡ []) × (reader.block ≡ None)
+HasNoRecords (stage.Ranging file) = (file.pairs ≡ []) × (file.block ≡ None)
+HasNoRecords (stage.Rebuilding n rebuilder) = ⊥
+HasNoRecords s = Unit {0}
 
 -- no block is in hand, and no file is about to be opened
-abbrev pub IsQuiet : OperationState → Type 0
-IsQuiet (stage.Dropping fid places done) = done < length places
-IsQuiet (stage.Ending answer) = Unit {0}
-IsQuiet stage.Over = Unit {0}
-IsQuiet _ = ⊥
+abbrev pub HasNoBlock : OperationState → Type 0
+HasNoBlock (stage.Dropping fid places done) = done < length places
+HasNoBlock (stage.Ending answer) = Unit {0}
+HasNoBlock stage.Over = Unit {0}
+HasNoBlock _ = ⊥
 
 -- what becomes of a range
 abbrev pub IsRangeStage : FileMachine → FileState → OperationState → Type 0
@@ -119,9 +119,9 @@ IsRangeStage file (FileEnded r end) new = new ≡ stage.Ending (range_answer r.a
 IsRangeStage file state new = new ≡ stage.Ranging file
 
 -- what becomes of a rebuild
-abbrev pub IsRebuildStage : ℕ → Rebuilder → Rebuild → OperationState → Type 0
-IsRebuildStage n rebuilder (Going s) new = new ≡ stage.Rebuilding n rebuilder
-IsRebuildStage n rebuilder (Ended end) new = new ≡ stage.Ending (answers.Rebuild end)
+abbrev pub IsRebuildState : ℕ → Rebuilder → Rebuild → OperationState → Type 0
+IsRebuildState n rebuilder (Going s) new = new ≡ stage.Rebuilding n rebuilder
+IsRebuildState n rebuilder (Ended end) new = new ≡ stage.Ending (answers.Rebuild end)
 
 -- the answer is said
 abbrev pub IsDoneStage : OperationState → Type 0

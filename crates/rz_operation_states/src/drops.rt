@@ -5,7 +5,7 @@ ghost use Rattle.rz_operation_model.specs.Ask.{AskNode};
 ghost use Rattle.rz_events.specs.declared.nodes.NodeAsk.TheVariants as ask;
 ghost use Rattle.rz_operation_model.specs.Steps.{after_drop, drop_at};
 ghost use Rattle.rz_operation_states.specs.Meaning.{meaning_of};
-ghost use Rattle.rz_operation_states.specs.Inside.{IsQuiet, work_of};
+ghost use Rattle.rz_operation_states.specs.Inside.{HasNoBlock, work_of};
 
 use crate::ask::Ask;
 use crate::stage::OperationState;
@@ -26,7 +26,7 @@ pub fn drop_ask(fid: u128, places: &Places, done: u8) -> Ask<'static>
 pub fn after_drop(fid: u128, places: Places, done: u8, answer: DropAnswer) -> OperationState
     requires { done < length places }
     ensures work { work_of result ≡ after_drop fid (slice_index places done) (drop (done + 1) places) answer }
-    ensures quiet { IsQuiet result }
+    ensures quiet { HasNoBlock result }
 {
     match answer {
         DropAnswer::Dropped { more: true, .. } => dropping(fid, places, done),
@@ -42,7 +42,7 @@ pub fn after_drop(fid: u128, places: Places, done: u8, answer: DropAnswer) -> Op
 pub fn dropped(fid: u128, places: Places, done: u8) -> OperationState
     requires { done < length places }
     ensures work { work_of result ≡ drop_at fid (drop (done + 1) places) }
-    ensures quiet { IsQuiet result }
+    ensures quiet { HasNoBlock result }
 {
     let _count = places.list().len();
     dropping(fid, places, done + 1)
@@ -52,7 +52,7 @@ pub fn dropped(fid: u128, places: Places, done: u8) -> OperationState
 pub fn dropping(fid: u128, places: Places, done: u8) -> OperationState
     requires { done ≤ length places }
     ensures work { work_of result ≡ drop_at fid (drop done places) }
-    ensures quiet { IsQuiet result }
+    ensures quiet { HasNoBlock result }
 {
     if (done as usize) < places.list().len() {
         OperationState::Dropping { fid, places, done }

@@ -9,9 +9,9 @@ ghost use Rattle.rz_file.specs.Machine.{IsNoText, aim_in};
 ghost use Rattle.rz_operation_states.specs.Meaning.{meaning_of};
 ghost use Rattle.rz_operation_states.specs.Machine.{text_of};
 ghost use Rattle.rz_operation_states.specs.Records.{HasHead};
-ghost use Rattle.rz_operation_states.specs.Answers.{IsReply, IsAnswer, ComeWith, MayMiss, IsPartSaid, Goes, IsAnswered};
+ghost use Rattle.rz_operation_states.specs.Answers.{IsReply, IsAnswer, ComeWith, MayMiss, IsPartSaid, IsWorkAfter, FitsIfEnough};
 ghost use Rattle.rz_operation_states.specs.Told.{range_reply, range_told, range_miss};
-ghost use Rattle.rz_operation_states.specs.Inside.{IsStage, IsFresh, IsRanging, IsRangeStage, IsOpen, machine_of, work_of};
+ghost use Rattle.rz_operation_states.specs.Inside.{IsOperationState, HasNoRecords, IsRanging, IsRangeStage, IsRangeOpen, machine_of, work_of};
 
 use crate::ask::{Ask, Saying};
 use crate::blocks::{read_answer, read_asked, write_answer, write_asked};
@@ -25,7 +25,7 @@ use rz_file::{FileMachine, FilePlan};
 
 /// What an operation asks whose range is written or read.
 pub fn range_ask(layout: Layout, file: &FileMachine) -> Ask<'_>
-    requires open { IsOpen file.now.state }
+    requires open { IsRangeOpen file.now.state }
     requires layout { file.now.layout ≡ layout }
     ensures value { meaning_of result ≡ ask_of layout (in_range file.now.state) }
     ensures head { HasHead layout (ask_of layout (in_range file.now.state)) }
@@ -78,8 +78,8 @@ pub fn open_range(layout: Layout, info: &FileInfo, plan: FilePlan) -> OperationS
     requires layout { plan.layout ≡ layout }
     requires places { length info.now.places ≡ safe_of layout }
     ensures work { work_of result ≡ range_planned layout info.now plan.plan }
-    ensures inside { IsStage layout result }
-    ensures fresh { IsFresh result }
+    ensures inside { IsOperationState layout result }
+    ensures fresh { HasNoRecords result }
 {
     settled(plan.open(info))
 }
@@ -141,8 +141,8 @@ fn short_end(mark: ReadMark) -> ReadEnd
 pub fn range_replied(layout: Layout, mut file: FileMachine, reply: &Reply) -> OperationState
     requires inside { IsRanging layout file }
     requires asked { IsReply layout (ask_of layout (work_of (OperationState.Ranging file))) reply.now }
-    ensures goes { Goes (machine_of layout (OperationState.Ranging file)) file.pairs (Replied reply.now) (machine_of layout result) }
-    ensures inside { IsStage layout result }
+    ensures goes { IsWorkAfter (machine_of layout (OperationState.Ranging file)) file.pairs (Replied reply.now) (machine_of layout result) }
+    ensures inside { IsOperationState layout result }
 {
     let Some(answer) = reply_told(&file, reply) else {
         unreachable!()
@@ -161,8 +161,8 @@ pub fn range_answered(
     requires inside { IsRanging layout file }
     requires asked { IsAnswer layout (ask_of layout (work_of (OperationState.Ranging file))) answer }
     requires bins { ComeWith layout (ask_of layout (work_of (OperationState.Ranging file))) answer bins.now }
-    ensures goes { IsAnswered (machine_of layout (OperationState.Ranging file)) answer bins.now (machine_of layout result) }
-    ensures inside { IsStage layout result }
+    ensures goes { FitsIfEnough (machine_of layout (OperationState.Ranging file)) answer bins.now (machine_of layout result) }
+    ensures inside { IsOperationState layout result }
 {
     let Some(told) = answer_told(answer) else {
         unreachable!()
@@ -175,8 +175,8 @@ pub fn range_answered(
 pub fn range_missed(layout: Layout, mut file: FileMachine) -> OperationState
     requires inside { IsRanging layout file }
     requires asked { MayMiss (ask_of layout (work_of (OperationState.Ranging file))) }
-    ensures goes { Goes (machine_of layout (OperationState.Ranging file)) file.pairs Missed (machine_of layout result) }
-    ensures inside { IsStage layout result }
+    ensures goes { IsWorkAfter (machine_of layout (OperationState.Ranging file)) file.pairs Missed (machine_of layout result) }
+    ensures inside { IsOperationState layout result }
 {
     file.tell(miss_told(&file), &[]);
     settled(file)
@@ -186,8 +186,8 @@ pub fn range_missed(layout: Layout, mut file: FileMachine) -> OperationState
 pub fn range_said(layout: Layout, mut file: FileMachine) -> OperationState
     requires inside { IsRanging layout file }
     requires asked { IsPartSaid (ask_of layout (work_of (OperationState.Ranging file))) }
-    ensures goes { Goes (machine_of layout (OperationState.Ranging file)) file.pairs (Noted (text_of (machine_of layout (OperationState.Ranging file)))) (machine_of layout result) }
-    ensures inside { IsStage layout result }
+    ensures goes { IsWorkAfter (machine_of layout (OperationState.Ranging file)) file.pairs (Noted (text_of (machine_of layout (OperationState.Ranging file)))) (machine_of layout result) }
+    ensures inside { IsOperationState layout result }
 {
     file.tell(FileAnswer::Noted, &[]);
     settled(file)

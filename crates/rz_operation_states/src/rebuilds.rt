@@ -6,9 +6,9 @@ ghost use Rattle.rz_operation_model.specs.Steps.{Replied, Missed, Noted, in_rebu
 ghost use Rattle.rz_operation_states.specs.Meaning.{meaning_of};
 ghost use Rattle.rz_operation_states.specs.Machine.{text_of};
 ghost use Rattle.rz_operation_states.specs.Records.{HasHead};
-ghost use Rattle.rz_operation_states.specs.Answers.{IsReply, IsAnswer, ComeWith, MayMiss, IsPartSaid, Goes, IsAnswered};
+ghost use Rattle.rz_operation_states.specs.Answers.{IsReply, IsAnswer, ComeWith, MayMiss, IsPartSaid, IsWorkAfter, FitsIfEnough};
 ghost use Rattle.rz_operation_states.specs.Told.{rebuild_reply, rebuild_answer};
-ghost use Rattle.rz_operation_states.specs.Inside.{IsStage, IsRebuilding, IsRebuildStage, machine_of, work_of};
+ghost use Rattle.rz_operation_states.specs.Inside.{IsOperationState, IsNodeRebuild, IsRebuildState, machine_of, work_of};
 
 use crate::ask::{Ask, Saying};
 use crate::stage::OperationState;
@@ -74,7 +74,7 @@ fn rebuild_ask(layout: Layout, node: u16, ask: RebuildAsk) -> Ask<'static>
 
 /// What an operation asks whose rebuild is under way.
 pub fn rebuilder_ask(layout: Layout, node: u16, rebuilder: &Rebuilder) -> Ask<'static>
-    requires { IsRebuilding layout node rebuilder.now }
+    requires { IsNodeRebuild layout node rebuilder.now }
     ensures value { meaning_of result ≡ ask_of layout (in_rebuild node rebuilder.now.state) }
     ensures head { HasHead layout (ask_of layout (in_rebuild node rebuilder.now.state)) }
 {
@@ -109,7 +109,7 @@ fn answer_told(answer: NodeAnswer) -> Option<RebuildAnswer>
 
 /// What becomes of a rebuild: its end is the answer.
 fn settled(node: u16, rebuilder: Rebuilder) -> OperationState
-    ensures { IsRebuildStage node rebuilder rebuilder.state result }
+    ensures { IsRebuildState node rebuilder rebuilder.state result }
 {
     match rebuilder.end() {
         Some(end) => {
@@ -127,10 +127,10 @@ pub fn rebuild_replied(
     mut rebuilder: Rebuilder,
     reply: &Reply,
 ) -> OperationState
-    requires inside { IsRebuilding layout node rebuilder }
+    requires inside { IsNodeRebuild layout node rebuilder }
     requires asked { IsReply layout (ask_of layout (work_of (OperationState.Rebuilding node rebuilder))) reply.now }
-    ensures goes { Goes (machine_of layout (OperationState.Rebuilding node rebuilder)) rebuilder.pairs (Replied reply.now) (machine_of layout result) }
-    ensures inside { IsStage layout result }
+    ensures goes { IsWorkAfter (machine_of layout (OperationState.Rebuilding node rebuilder)) rebuilder.pairs (Replied reply.now) (machine_of layout result) }
+    ensures inside { IsOperationState layout result }
 {
     let Some(answer) = reply_told(reply) else {
         unreachable!()
@@ -147,11 +147,11 @@ pub fn rebuild_answered(
     answer: NodeAnswer,
     bins: &[u64],
 ) -> OperationState
-    requires inside { IsRebuilding layout node rebuilder }
+    requires inside { IsNodeRebuild layout node rebuilder }
     requires asked { IsAnswer layout (ask_of layout (work_of (OperationState.Rebuilding node rebuilder))) answer }
     requires bins { ComeWith layout (ask_of layout (work_of (OperationState.Rebuilding node rebuilder))) answer bins.now }
-    ensures goes { IsAnswered (machine_of layout (OperationState.Rebuilding node rebuilder)) answer bins.now (machine_of layout result) }
-    ensures inside { IsStage layout result }
+    ensures goes { FitsIfEnough (machine_of layout (OperationState.Rebuilding node rebuilder)) answer bins.now (machine_of layout result) }
+    ensures inside { IsOperationState layout result }
 {
     let Some(told) = answer_told(answer) else {
         unreachable!()
@@ -162,10 +162,10 @@ pub fn rebuild_answered(
 
 /// How the operation goes on after a message to a node, or its answer, was lost.
 pub fn rebuild_missed(layout: Layout, node: u16, mut rebuilder: Rebuilder) -> OperationState
-    requires inside { IsRebuilding layout node rebuilder }
+    requires inside { IsNodeRebuild layout node rebuilder }
     requires asked { MayMiss (ask_of layout (work_of (OperationState.Rebuilding node rebuilder))) }
-    ensures goes { Goes (machine_of layout (OperationState.Rebuilding node rebuilder)) rebuilder.pairs Missed (machine_of layout result) }
-    ensures inside { IsStage layout result }
+    ensures goes { IsWorkAfter (machine_of layout (OperationState.Rebuilding node rebuilder)) rebuilder.pairs Missed (machine_of layout result) }
+    ensures inside { IsOperationState layout result }
 {
     rebuilder.tell(RebuildAnswer::Missed, &[]);
     settled(node, rebuilder)
@@ -173,10 +173,10 @@ pub fn rebuild_missed(layout: Layout, node: u16, mut rebuilder: Rebuilder) -> Op
 
 /// How the operation goes on once it was said that a block was left.
 pub fn rebuild_said(layout: Layout, node: u16, mut rebuilder: Rebuilder) -> OperationState
-    requires inside { IsRebuilding layout node rebuilder }
+    requires inside { IsNodeRebuild layout node rebuilder }
     requires asked { IsPartSaid (ask_of layout (work_of (OperationState.Rebuilding node rebuilder))) }
-    ensures goes { Goes (machine_of layout (OperationState.Rebuilding node rebuilder)) rebuilder.pairs (Noted (text_of (machine_of layout (OperationState.Rebuilding node rebuilder)))) (machine_of layout result) }
-    ensures inside { IsStage layout result }
+    ensures goes { IsWorkAfter (machine_of layout (OperationState.Rebuilding node rebuilder)) rebuilder.pairs (Noted (text_of (machine_of layout (OperationState.Rebuilding node rebuilder)))) (machine_of layout result) }
+    ensures inside { IsOperationState layout result }
 {
     rebuilder.tell(RebuildAnswer::Noted, &[]);
     settled(node, rebuilder)

@@ -68,15 +68,15 @@ noted None h = h
 noted (Some x) h = x ∷ h
 
 -- want of memory ends a play, and is no answer in one
-abbrev pub IsTold : NodeAnswer → Type 0
-IsTold (answer.Start start.NoMemory) = ⊥
-IsTold given = IsOpening given
+abbrev pub IsAnswerInPlay : NodeAnswer → Type 0
+IsAnswerInPlay (answer.Start start.NoMemory) = ⊥
+IsAnswerInPlay given = IsOpening given
 
 -- A node is stopped, started or loses its disk: a line that does not apply has no event and changes nothing.
 pub record IsAdminCall (v : Volume) (n : ℕ) (question : NodeAsk) (w next : World) : Type 0 where
   pub given : NodeAnswer
   pub given_is : IsNodeAnswer (cells_of v n) (w.nodes n) question given
-  pub told : IsTold given
+  pub told : IsAnswerInPlay given
   pub next_is : next ≡ record (answered w n question given) { log = noted (node_event Admin n question given) w.log }
 
 -- What a start makes of a node whose disk does not tell its text: one that started is up and may hold anything, and any other is

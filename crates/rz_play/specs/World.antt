@@ -66,13 +66,13 @@ with_work s work = record s { work = work }
 
 -- Operations are taken up in order.
 
-abbrev pub take_up : Agenda → Work → List Operation → Agenda
-take_up s Over (op ∷ ops) = record s { todo = ops; number = s.number + 1; work = begun op }
-take_up s work ops = s
+abbrev pub begin_next : Agenda → Work → List Operation → Agenda
+begin_next s Over (op ∷ ops) = record s { todo = ops; number = s.number + 1; work = begun op }
+begin_next s work ops = s
 
 -- the actor as it goes to work: with its next operation, where it has none in hand
 abbrev pub at_work : Agenda → Agenda
-at_work s = take_up s s.work s.todo
+at_work s = begin_next s s.work s.todo
 
 abbrev pub is_over : Work → Bool
 is_over Over = true

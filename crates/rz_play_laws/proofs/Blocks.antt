@@ -26,7 +26,7 @@ use Rattle.rz_operation_model.specs.Ask.{is_part}
 use Rattle.rz_events.specs.declared.machines.FileEnd.TheVariants as end
 use Rattle.rz_operation_model.specs.Files.{Ended, reads_block, next_block, go_on, with_text, writes_block}
 use Rattle.rz_operation_model.specs.Steps.{read_end, in_range, after_got, after_gave}
-use Rattle.rz_play_laws.specs.Own.{IsPlacing, IsToldBy, InCourse, IsOwn}
+use Rattle.rz_play_laws.specs.Own.{IsPlacing, IsToldBy, InCourse, IsOwnOf}
 
 pub placing-more : (v : Volume) (f g : Facts) → Extends f g → (fid : ℕ) (places : List ℕ) → IsPlacing v f fid places → IsPlacing v g fid places
 placing-more v f g ext fid places p = record { placed = ext.places fid places p.placed; many = p.many; apart = p.apart; nodes = p.nodes }
@@ -56,29 +56,29 @@ long-patched start bytes text most low short =
     omega (arith, c, a, b, d, low, short)
 
 module _ (v : Volume) (g : Facts) (o run : List Event) (by : Actor) (going : IsOpen run) where
-  reads : (r : Range) → IsPlacing v g r.info.fid r.info.places → IsOwn v g o run by (in_range (reads_block v.layout r))
+  reads : (r : Range) → IsPlacing v g r.info.fid r.info.places → IsOwnOf v g o run by (in_range (reads_block v.layout r))
   reads r placing = (going, record { layout_is = refl; placing = placing; stage = tt }, placing)
 
-  writes : (r : Range) → IsPlacing v g r.info.fid r.info.places → (text : List ℕ) → length text ≤ block_bytes_of v.layout → IsOwn v g o run by (in_range (writes_block v.layout r text))
+  writes : (r : Range) → IsPlacing v g r.info.fid r.info.places → (text : List ℕ) → length text ≤ block_bytes_of v.layout → IsOwnOf v g o run by (in_range (writes_block v.layout r text))
   writes r placing text short = (going, record { layout_is = refl; placing = placing; size = refl; short = short; stage = tt }, placing)
 
-  next : (r : Range) → IsPlacing v g r.info.fid r.info.places → (aim : Aim) → IsOwn v g o run by (in_range (next_block v.layout r aim))
+  next : (r : Range) → IsPlacing v g r.info.fid r.info.places → (aim : Aim) → IsOwnOf v g o run by (in_range (next_block v.layout r aim))
   next r placing (Taking bytes) = reads r placing
   next r placing (Giving bytes) = go (is_whole v.layout r)
     where
-      go : (b : Bool) → IsOwn v g o run by (in_range (cond b (writes_block v.layout r (cut r.done (count_in v.layout r) bytes)) (reads_block v.layout r)))
+      go : (b : Bool) → IsOwnOf v g o run by (in_range (cond b (writes_block v.layout r (cut r.done (count_in v.layout r) bytes)) (reads_block v.layout r)))
       go true = writes r placing (cut r.done (count_in v.layout r) bytes) (let l = long-cut r.done (count_in v.layout r) bytes in let b = in-block v.layout r in omega (arith, l, b))
       go false = reads r placing
 
-  pub goes-on : (r : Range) → IsPlacing v g r.info.fid r.info.places → IsOwn v g o run by (in_range (go_on v.layout r))
+  pub goes-on : (r : Range) → IsPlacing v g r.info.fid r.info.places → IsOwnOf v g o run by (in_range (go_on v.layout r))
   goes-on r placing = go (r.done == r.size)
     where
-      go : (b : Bool) → IsOwn v g o run by (in_range (cond b (Ended r (end.Whole r.done)) (next_block v.layout r r.aim)))
+      go : (b : Bool) → IsOwnOf v g o run by (in_range (cond b (Ended r (end.Whole r.done)) (next_block v.layout r r.aim)))
       go true = tt
       go false = next r placing r.aim
 
 pub after-gave : (v : Volume) (f g : Facts) → Extends f g → (o run : List Event) (by : Actor) (number : ℕ) (key : Key) (course : Course) → InCourse v f course → (end : WriteEnd)
-    → (let x = e.Gave by number key (is_part course) end in IsOwn v g (x ∷ o) (x ∷ run) by (after_gave v.layout course end))
+    → (let x = e.Gave by number key (is_part course) end in IsOwnOf v g (x ∷ o) (x ∷ run) by (after_gave v.layout course end))
 after-gave v f g ext o run by number key Alone is end = refl
 after-gave v f g ext o run by number key (Within r) is (write.Acked stamp mask) =
     let x = e.Gave by number key true (write.Acked stamp mask) in
@@ -86,7 +86,7 @@ after-gave v f g ext o run by number key (Within r) is (write.Acked stamp mask) 
 after-gave v f g ext o run by number key (Within r) is (_) = tt
 
 with-text : (v : Volume) (g : Facts) (o run : List Event) (by : Actor) → IsOpen run → (r : Range) → IsPlacing v g r.info.fid r.info.places → (text : List ℕ) → length text ≤ block_bytes_of v.layout
-    → (aim : Aim) → IsOwn v g o run by (in_range (with_text v.layout r text aim))
+    → (aim : Aim) → IsOwnOf v g o run by (in_range (with_text v.layout r text aim))
 with-text v g o run by going r placing text short (Taking bytes) =
     goes-on v g o run by going (passed v.layout r (Taking (bytes ++ cut (start_in v.layout r) (count_in v.layout r) text))) placing
 with-text v g o run by going r placing text short (Giving bytes) =
@@ -96,7 +96,7 @@ with-text v g o run by going r placing text short (Giving bytes) =
     (long-patched (start_in v.layout r) (cut r.done (count_in v.layout r) bytes) text (block_bytes_of v.layout) (omega (arith, l, b)) short)
 
 pub after-found : (v : Volume) (f g : Facts) → Extends f g → (o run : List Event) (by : Actor) (number : ℕ) (key : Key) (course : Course) → InCourse v f course → (mark : ReadMark) (text : List ℕ)
-    → (let x = e.Got by number key (is_part course) (read_end text mark) in IsToldBy v g x → IsOwn v g (x ∷ o) (x ∷ run) by (after_got v.layout course text mark))
+    → (let x = e.Got by number key (is_part course) (read_end text mark) in IsToldBy v g x → IsOwnOf v g (x ∷ o) (x ∷ run) by (after_got v.layout course text mark))
 after-found v f g ext o run by number key Alone is mark text told = refl
 after-found v f g ext o run by number key (Within r) is (mark.Found stamp size) text told =
     let x = e.Got by number key true (read_end text (mark.Found stamp size)) in

@@ -31,7 +31,7 @@ use Rattle.rz_operation_model.specs.Turns.{IsStep}
 use Rattle.rz_operation_model.specs.Work.{Work, Plan, OnBlock, OnRange, RangePlan, PutBlock, GetBlock, WriteBytes, ReadBytes, Calling, Dropping, Opening, Locking, Ending}
 use Rattle.rz_operation_model.specs.Ask.{SayDone, ask_of}
 use Rattle.rz_operation_model.specs.Steps.{Told, Replied, Locked, Answered, Missed, told, after_call, after_open, after_lock, after_drop, drop_at, planned}
-use Rattle.rz_play_laws.specs.Own.{IsPlacing, IsReply, AreToldBy, IsPlan, IsOnNames, IsOwn}
+use Rattle.rz_play_laws.specs.Own.{IsPlacing, IsOpenReply, AreToldBy, IsBlockPlan, IsOnNames, IsOwnOf}
 use Rattle.rz_play_laws.proofs.Blocks.{goes-on}
 use Rattle.rz_play_laws.proofs.Words.{has-more}
 use Rattle.rz_play_laws.proofs.Steps.{export-step, lock-step, node-step, say-step}
@@ -39,25 +39,25 @@ use Rattle.rz_play_laws.proofs.Steps.{export-step, lock-step, node-step, say-ste
 module _ (v : Volume) (f g : Facts) (ext : Extends f g) (o run : List Event) (by : Actor) (number : ℕ) where
   -- what is to be shown of a step
   abbrev IsNext : Work → Told → List Event → Type 0
-  IsNext work t xs = AreToldBy v g xs → IsOwn v g (xs ++ o) (xs ++ run) by (told v.layout work t)
+  IsNext work t xs = AreToldBy v g xs → IsOwnOf v g (xs ++ o) (xs ++ run) by (told v.layout work t)
 
   -- Calls on names.
 
-  no-file : (c : TreeCall) (info : FileInfo) → IsOnNames c → IsReply v g c (given.File info) → ⊥
+  no-file : (c : TreeCall) (info : FileInfo) → IsOnNames c → IsOpenReply v g c (given.File info) → ⊥
   no-file (tree.OpenFile path) info names is = names
   no-file (_) info names is = is
 
-  gone-nodes : (c : TreeCall) (info : FileInfo) → IsOnNames c → IsReply v g c (given.Gone (Some info)) → AllByRecursion (IsNodeOf v) info.places
+  gone-nodes : (c : TreeCall) (info : FileInfo) → IsOnNames c → IsOpenReply v g c (given.Gone (Some info)) → AllByRecursion (IsNodeOf v) info.places
   gone-nodes (tree.OpenFile path) info names is = absurd names
   gone-nodes (_) info names is = is
 
   -- the next node is asked, or the drop has come to its end
   drop-next : (xs : List Event) (fid : ℕ) (places : List ℕ) → IsOpen (xs ++ run) → HasGone (xs ++ o) by fid → AllByRecursion (IsNodeOf v) places
-      → IsOwn v g (xs ++ o) (xs ++ run) by (drop_at fid places)
+      → IsOwnOf v g (xs ++ o) (xs ++ run) by (drop_at fid places)
   drop-next xs fid [] going gone all = tt
   drop-next xs fid (n ∷ places) going gone all = (going, gone, all)
 
-  called : (c : TreeCall) → IsOnNames c → (r : TreeReply) → IsReply v g c r → (let x = e.Meta by c r in IsOwn v g (x ∷ o) (x ∷ run) by (after_call r))
+  called : (c : TreeCall) → IsOnNames c → (r : TreeReply) → IsOpenReply v g c r → (let x = e.Meta by c r in IsOwnOf v g (x ∷ o) (x ∷ run) by (after_call r))
   called c names (given.Gone (Some info)) is =
       drop-next (e.Meta by c (given.Gone (Some info)) ∷ []) info.fid info.places refl (c, info, inl refl, refl) (gone-nodes c info names is)
   called c names (given.File info) is = absurd (no-file c info names is)
@@ -75,8 +75,8 @@ module _ (v : Volume) (f g : Facts) (ext : Extends f g) (o run : List Event) (by
 
   -- Opens.
 
-  opened : (x : Event) → is_end x ≡ false → (plan : Plan) (info : FileInfo) → IsPlan v plan → IsPlacing v g info.fid info.places
-      → IsOwn v g (x ∷ o) (x ∷ run) by (planned v.layout info plan)
+  opened : (x : Event) → is_end x ≡ false → (plan : Plan) (info : FileInfo) → IsBlockPlan v plan → IsPlacing v g info.fid info.places
+      → IsOwnOf v g (x ∷ o) (x ∷ run) by (planned v.layout info plan)
   opened x going (OnBlock (PutBlock block text)) info fits placing = (going, record { layout_is = refl; placing = placing; size = refl; short = fits; stage = tt }, tt)
   opened x going (OnBlock (GetBlock block)) info fits placing = (going, record { layout_is = refl; placing = placing; stage = tt }, tt)
   opened x going (OnRange (WriteBytes offset bytes)) info fits placing =
@@ -84,27 +84,27 @@ module _ (v : Volume) (f g : Facts) (ext : Extends f g) (o run : List Event) (by
   opened x going (OnRange (ReadBytes offset count)) info fits placing =
       goes-on v g (x ∷ o) (x ∷ run) by going (record { info = info; offset = offset; size = min count (info.size - offset); done = 0; aim = Taking [] }) placing
 
-  answered : (path : List ℕ) (plan : Plan) → IsPlan v plan → (r : TreeReply) → IsReply v g (tree.OpenFile path) r
-      → (let x = e.Meta by (tree.OpenFile path) r in IsOwn v g (x ∷ o) (x ∷ run) by (after_open v.layout plan r))
+  answered : (path : List ℕ) (plan : Plan) → IsBlockPlan v plan → (r : TreeReply) → IsOpenReply v g (tree.OpenFile path) r
+      → (let x = e.Meta by (tree.OpenFile path) r in IsOwnOf v g (x ∷ o) (x ∷ run) by (after_open v.layout plan r))
   answered path plan fits (given.File info) is = opened (e.Meta by (tree.OpenFile path) (given.File info)) refl plan info fits is
   answered path plan fits (given.Refused fault) is = tt
   answered path plan fits (_) is = absurd is
 
-  open-step : (path : List ℕ) (plan : Plan) → IsPlan v plan → (r : Reply) (x : Event) → tree_event by (call.Tree (tree.OpenFile path)) r ≡ Some x
+  open-step : (path : List ℕ) (plan : Plan) → IsBlockPlan v plan → (r : Reply) (x : Event) → tree_event by (call.Tree (tree.OpenFile path)) r ≡ Some x
       → IsNext (Opening path plan) (Replied r) (x ∷ [])
   open-step path plan fits (reply.Tree r) x is =
       subst (λ y. IsNext (Opening path plan) (Replied (reply.Tree r)) (y ∷ [])) (the_some _ x is) (λ told. answered path plan fits r told.0)
   open-step path plan fits (_) x is = cc
 
-  pub own-opening : (path : List ℕ) (plan : Plan) → IsPlan v plan → (t : Told) (xs : List Event)
+  pub own-opening : (path : List ℕ) (plan : Plan) → IsBlockPlan v plan → (t : Told) (xs : List Event)
       → IsStep by number (ask_of v.layout (Opening path plan)) t xs → IsNext (Opening path plan) t xs
   own-opening path plan own t xs step =
       export-step by (call.Tree (tree.OpenFile path)) (λ z zs. IsNext (Opening path plan) z zs) (open-step path plan own) t xs step
 
   -- Opens with a lock: where another holds one, the file is opened again.
 
-  locked : (path : List ℕ) (plan : RangePlan) (granted : Bool) (r : TreeReply) → IsReply v g (tree.OpenFile path) r
-      → (let x = e.Meta by (tree.OpenFile path) r in IsOwn v g (x ∷ o) (x ∷ run) by (after_lock v.layout path plan granted r))
+  locked : (path : List ℕ) (plan : RangePlan) (granted : Bool) (r : TreeReply) → IsOpenReply v g (tree.OpenFile path) r
+      → (let x = e.Meta by (tree.OpenFile path) r in IsOwnOf v g (x ∷ o) (x ∷ run) by (after_lock v.layout path plan granted r))
   locked path plan true r is = answered path (OnRange plan) tt r is
   locked path plan false (given.File info) is = tt
   locked path plan false (given.Refused fault) is = tt
@@ -132,7 +132,7 @@ module _ (v : Volume) (f g : Facts) (ext : Extends f g) (o run : List Event) (by
     abbrev drops_at : DropAnswer → Event
     drops_at a = drop_event by n fid a
 
-    dropped : (a : DropAnswer) → IsOwn v g (drops_at a ∷ o) (drops_at a ∷ run) by (after_drop fid n places a)
+    dropped : (a : DropAnswer) → IsOwnOf v g (drops_at a ∷ o) (drops_at a ∷ run) by (after_drop fid n places a)
     dropped (drops.Dropped block stamp true) = (refl, gone-more (drops_at (drops.Dropped block stamp true) ∷ []) fid own.1, own.2)
     dropped (drops.Dropped block stamp false) =
         drop-next (drops_at (drops.Dropped block stamp false) ∷ []) fid places refl (gone-more (drops_at (drops.Dropped block stamp false) ∷ []) fid own.1) own.2.1

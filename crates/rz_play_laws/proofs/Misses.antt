@@ -27,12 +27,12 @@ use Rattle.rz_script.specs.declared.line.Line.{Line}
 use Rattle.rz_script.specs.declared.line.Line.TheVariants as line
 use Rattle.rz_node_model.specs.States.{NodeState}
 use Rattle.rz_export_model.specs.Export.{Export as ExportState}
-use Rattle.rz_play.specs.World.{World, Agenda, world_after, at_work, take_up, has_work, actors}
+use Rattle.rz_play.specs.World.{World, Agenda, world_after, at_work, begin_next, has_work, actors}
 use Rattle.rz_play.specs.Turns.{IsAskTurn, IsNodeTurn, Through, ReplyLost, RequestLost, text_said, lost_after}
 use Rattle.rz_play.specs.Free.{IsFreeAskTurn, IsTurnOver}
 use Rattle.rz_play.specs.Lines.{IsTurnsOver, IsTurnIf, IsRoundOver, IsRoundsOver, IsAdminCall, IsFreeStart, noted, PlaysLine, PlaysLineOver}
 use Rattle.rz_play.specs.Stops.{TurnsSpent, BeginsLineOver}
-use Rattle.rz_play_laws.specs.Runs.{IsReached}
+use Rattle.rz_play_laws.specs.Runs.{IsWorldReached}
 use Rattle.rz_play_laws.proofs.Plays.{plays-begin, stops-begin}
 use Rattle.rz_play.specs.Played.{BeginsLines, BeginsLinesOver}
 use Rattle.rz_play.specs.Faults.{is_missed, missed, is_miss, misses}
@@ -160,7 +160,7 @@ owes-used k w next by planned waits used others counts same_lost o = go (without
 
 -- A turn.
 
-kept-miss : (s : Agenda) (work : Work) (ops : List Operation) → (take_up s work ops).miss ≡ s.miss
+kept-miss : (s : Agenda) (work : Work) (ops : List Operation) → (begin_next s work ops).miss ≡ s.miss
 kept-miss s Over (op ∷ ops) = refl
 kept-miss s Over [] = refl
 kept-miss s (Calling c) ops = refl
@@ -358,14 +358,14 @@ module _ (v : Volume) where
   owes-lines k (l ∷ lines) tells w next (inr (mid, first, more)) o =
       subst (λ j. Owes j next) (line-by-line k l lines) (owes-lines (with_line k l) lines tells mid next more (owes-line k l tells w mid first o))
 
-  begun : (lines : List Line) (tells : Bool) (w next : World) → IsReached v lines tells w next → BeginsLinesOver v lines tells w next
+  begun : (lines : List Line) (tells : Bool) (w next : World) → IsWorldReached v lines tells w next → BeginsLinesOver v lines tells w next
   begun lines tells w next (inl played) = plays-begin v lines tells w next played
   begun lines tells w next (inr (inl stopped)) = stops-begin v TurnsSpent lines tells w next stopped
   begun lines tells w next (inr (inr is)) = is
 
 -- no actor waits at first, and the link lost nothing
 pub losses-over : (v : Volume) (lines : List Line) (tells : Bool) (nodes : ℕ → NodeState) (s : ExportState) (old : List Event) (last : World)
-    → IsReached v lines tells (world_after nodes s old) last → missed last.log ≤ missed old + misses lines + last.lost
+    → IsWorldReached v lines tells (world_after nodes s old) last → missed last.log ≤ missed old + misses lines + last.lost
 losses-over v lines tells nodes s old last is =
     let o : Owes (missed old) (world_after nodes s old) = record { waiting = []; all = λ a reply at. cc; few = omega arith } in
     let now = owes-lines v (missed old) lines tells (world_after nodes s old) last (begun v lines tells (world_after nodes s old) last is) o in

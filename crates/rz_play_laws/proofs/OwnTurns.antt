@@ -20,7 +20,7 @@ use Rattle.rz_operation_model.specs.Work.{Work, RangePlan, WriteBytes, ReadBytes
 use Rattle.rz_operation_model.specs.Ask.{ask_of}
 use Rattle.rz_operation_model.specs.Steps.{Told, told, read_end}
 use Rattle.rz_play.specs.Turns.{found_text}
-use Rattle.rz_play_laws.specs.Own.{AreToldBy, IsFetching, IsWriteStage, IsReadStage, IsRebuildStage, IsOwn, IsProper}
+use Rattle.rz_play_laws.specs.Own.{AreToldBy, IsFetching, IsWriteStage, IsReadStage, HasRebuildEvents, IsOwnOf, IsProper}
 use Rattle.rz_operation_model.specs.Turns.{IsStep}
 use Rattle.rz_operation_model.specs.Rebuild.{RebuildState, Probing, Enrolling, Replacing, Listing, Copying, Refilling, Leaving}
 use Rattle.rz_core.specs.Courses.{IsCourse}
@@ -37,7 +37,7 @@ lock-proper v f o run by number path (WriteBytes offset bytes) = tt
 lock-proper v f o run by number path (ReadBytes offset count) = tt
 
 -- what an operation asks is proper
-pub proper : (v : Volume) (f : Facts) (o run : List Event) (by : Actor) (number : ℕ) (work : Work) → IsOwn v f o run by work → IsCourse v.layout by number run work
+pub proper : (v : Volume) (f : Facts) (o run : List Event) (by : Actor) (number : ℕ) (work : Work) → IsOwnOf v f o run by work → IsCourse v.layout by number run work
     → IsProper v f o run by number (ask_of v.layout work)
 proper v f o run by number (Calling c) own course = tt
 proper v f o run by number (Dropping fid n places) own course = (own.1, own.2.0, tt, λ link. own.0)
@@ -50,8 +50,8 @@ proper v f o run by number (Ending answer) own course = record { work = Ending a
 proper v f o run by number Over own course = tt
 
 -- after an answer its own events say where it stands
-pub own-turn : (v : Volume) (f g : Facts) → Extends f g → (o run : List Event) (by : Actor) (number : ℕ) (work : Work) → IsOwn v f o run by work → (t : Told) (xs : List Event)
-    → IsStep by number (ask_of v.layout work) t xs → AreToldBy v g xs → IsOwn v g (xs ++ o) (xs ++ run) by (told v.layout work t)
+pub own-turn : (v : Volume) (f g : Facts) → Extends f g → (o run : List Event) (by : Actor) (number : ℕ) (work : Work) → IsOwnOf v f o run by work → (t : Told) (xs : List Event)
+    → IsStep by number (ask_of v.layout work) t xs → AreToldBy v g xs → IsOwnOf v g (xs ++ o) (xs ++ run) by (told v.layout work t)
 own-turn v f g ext o run by number (Calling c) own t xs step = own-calling v f g ext o run by number c own t xs step
 own-turn v f g ext o run by number (Dropping fid n places) own t xs step = own-dropping v f g ext o run by number fid n places own t xs step
 own-turn v f g ext o run by number (Opening path plan) own t xs step = own-opening v f g ext o run by number path plan own t xs step
@@ -108,7 +108,7 @@ read-grows v f g ext o by key places (reading.Ended mark) h =
     (got-extends v f g ext o by key (read_end (found_text f mark) mark) h)
 
 rebuild-grows : (v : Volume) (f g : Facts) → Extends f g → (o run : List Event) (by : Actor) (n : ℕ) (state : RebuildState)
-    → IsRebuildStage v f o run by n state → IsRebuildStage v g o run by n state
+    → HasRebuildEvents v f o run by n state → HasRebuildEvents v g o run by n state
 rebuild-grows v f g ext o run by n (Copying t l base s) own = (
   own.0,
   (
@@ -142,7 +142,7 @@ rebuild-grows v f g ext o run by n (Replacing loss fence) own = own
 rebuild-grows v f g ext o run by n (Listing t) own = own
 
 -- what others do changes nothing
-pub own-others : (v : Volume) (f g : Facts) → Extends f g → (o run : List Event) (by : Actor) (work : Work) → IsOwn v f o run by work → IsOwn v g o run by work
+pub own-others : (v : Volume) (f g : Facts) → Extends f g → (o run : List Event) (by : Actor) (work : Work) → IsOwnOf v f o run by work → IsOwnOf v g o run by work
 own-others v f g ext o run by (Writing c text s) own = (
   own.0,
   record {

@@ -32,7 +32,7 @@ use Rattle.rz_operation_model.specs.Ask.{Ask, AskExport, AskNode, AskLock, Say, 
 use Rattle.rz_events.specs.declared.operations.Operation.{Operation}
 use Rattle.rz_script.specs.declared.line.Line.{Line}
 use Rattle.rz_script.specs.declared.line.Line.TheVariants as line
-use Rattle.rz_play.specs.World.{World, Agenda, world_after, with_agenda, with_node, at_work, take_up, has_work, actors}
+use Rattle.rz_play.specs.World.{World, Agenda, world_after, with_agenda, with_node, at_work, begin_next, has_work, actors}
 use Rattle.rz_play.specs.Stops.{StopCause, TurnsSpent, JournalRefused, HasCause, StopsLine, StopsLineOver, BeginsLine, BeginsLineOver, most_turns}
 use Rattle.rz_node_model.specs.States.{fresh}
 use Rattle.rz_export_model.specs.Export.{Export as ExportState, new_export}
@@ -40,7 +40,7 @@ use Rattle.rz_script.specs.Lines.{IsOperation, IsLine, AreLines}
 use Rattle.rz_play.specs.Turns.{IsTurn, IsAskTurn, Through, ReplyLost, RequestLost, text_said, counted, answered}
 use Rattle.rz_operation_model.specs.Turns.{said_event}
 use Rattle.rz_core.specs.Courses.{Begun}
-use Rattle.rz_play.specs.Lines.{IsTurns, IsTurnOr, IsRound, IsRounds, IsTold, PlaysLine, noted}
+use Rattle.rz_play.specs.Lines.{IsTurns, IsTurnOr, IsRound, IsRounds, IsAnswerInPlay, PlaysLine, noted}
 use Rattle.std.specs.FinMap as maps
 use Rattle.std.proofs.Math.Path.{fun_ext}
 use Rattle.rz_events.specs.declared.records.Held.{Held}
@@ -54,7 +54,7 @@ use Rattle.rz_safety.specs.Rebuilt.{AreRebuilt}
 use Rattle.rz_safety.specs.Writes.{AreWritesEnded}
 use Rattle.rz_play_laws.specs.Runs.{IsScript, IsRunAfter}
 use Rattle.rz_play.specs.Played.{IsBegun, PlaysLines, PlaysLinesOver, StopsLines, StopsLinesOver, BeginsLines, BeginsLinesOver, IsPlayedFrom, IsStoppedFrom, IsBegunFrom}
-use Rattle.rz_play_laws.specs.Own.{IsOwn, IsUnderWay}
+use Rattle.rz_play_laws.specs.Own.{IsOwnOf, HasOwnEvents}
 use Rattle.rz_play_laws.specs.Fine.{IsSeated, IsTelling, MayBegin, IsFine, IsFineIfShort}
 use Rattle.rz_play_laws.proofs.OwnTurns.{proper, own-turn}
 use Rattle.rz_play_laws.proofs.Scripts.{seated, node-of, begins, does-it}
@@ -64,15 +64,15 @@ use Rattle.rz_play_laws.proofs.Turning.{ask-turn, fine-after, grow, in-runs}
 
 -- An actor at work: its own events say where it stands, and it is under way, or has nothing to do.
 pub record IsAtWork (v : Volume) (f : Facts) (o run : List Event) (by : Actor) (s : Agenda) : Type 0 where
-  pub own : IsOwn v f o run by s.work
-  pub way : IsUnderWay v by s.number run s.work
+  pub own : IsOwnOf v f o run by s.work
+  pub way : HasOwnEvents v by s.number run s.work
   pub todo : AllByRecursion (IsOperation v by) s.todo
 
 module _ (v : Volume) (f : Facts) (o run : List Event) (by : Actor) (s : Agenda) (is : IsAtWork v f o run by s) where
-  over-between : (work : Work) → work ≡ Over → IsOwn v f o run by work → IsBetween run
-  over-between work same own = subst (IsOwn v f o run by) same own
+  over-between : (work : Work) → work ≡ Over → IsOwnOf v f o run by work → IsBetween run
+  over-between work same own = subst (IsOwnOf v f o run by) same own
 
-  pub taken : (work : Work) (ops : List Operation) → s.work ≡ work → s.todo ≡ ops → IsAtWork v f o run by (take_up s work ops)
+  pub taken : (work : Work) (ops : List Operation) → s.work ≡ work → s.todo ≡ ops → IsAtWork v f o run by (begin_next s work ops)
   taken Over (op ∷ ops) at todo =
       let all : AllByRecursion (IsOperation v by) (op ∷ ops) = subst (AllByRecursion (IsOperation v by)) todo is.todo in
       record { own = begins v f o run by op all.0; way = inr (Begun run op (does-it v by op all.0) (over-between s.work at is.own)); todo = all.1 }
@@ -114,7 +114,7 @@ turn v tells old by ok w next is fine = go (at_work (w.agendas by)) (working v o
     go : (s : Agenda) → IsAtWork v (facts w.log) (of_actor by w.log) (of_actor by fine.run) by s → IsAskTurn v (counted w) by s (ask_of v.layout s.work) next → IsFineIfShort v old next
     go s t turn = by_way t.way
       where
-        by_way : IsUnderWay v by s.number (of_actor by fine.run) s.work → IsFineIfShort v old next
+        by_way : HasOwnEvents v by s.number (of_actor by fine.run) s.work → IsFineIfShort v old next
         by_way (inl over) few =
             subst (IsFine v old) (sym (subst (λ z. IsAskTurn v (counted w) by s (ask_of v.layout z) next) over turn)) (counts v old w fine)
         by_way (inr course) few =
@@ -239,18 +239,18 @@ module _ (v : Volume) (tells : IsTelling v) (old : List Event) where
   }
     where
       own-of : (fine : IsFine v old w) (a : Actor) → IsSeated a → (b : Bool) → same_actor a by ≡ b
-          → IsOwn v (facts w.log) (of_actor a w.log) (of_actor a fine.run) a (cond b t (w.agendas a)).work
+          → IsOwnOf v (facts w.log) (of_actor a w.log) (of_actor a fine.run) a (cond b t (w.agendas a)).work
       own-of fine a ok true at =
           let is_by : a ≡ by = same_actor-true a by at in
-          subst (IsOwn v (facts w.log) (of_actor a w.log) (of_actor a fine.run) a) (ap (λ z. (w.agendas z).work) is_by ∙ sym same) (fine.own a ok)
+          subst (IsOwnOf v (facts w.log) (of_actor a w.log) (of_actor a fine.run) a) (ap (λ z. (w.agendas z).work) is_by ∙ sym same) (fine.own a ok)
       own-of fine a ok false apart = fine.own a ok
 
       way-of : (fine : IsFine v old w) (a : Actor) → IsSeated a → (b : Bool) → same_actor a by ≡ b
-          → IsUnderWay v a (cond b t (w.agendas a)).number (of_actor a fine.run) (cond b t (w.agendas a)).work
+          → HasOwnEvents v a (cond b t (w.agendas a)).number (of_actor a fine.run) (cond b t (w.agendas a)).work
       way-of fine a ok true at =
           let is_by : a ≡ by = same_actor-true a by at in
-          subst (λ z. IsUnderWay v a z (of_actor a fine.run) t.work) (ap (λ z. (w.agendas z).number) is_by ∙ sym same_number)
-          (subst (IsUnderWay v a (w.agendas a).number (of_actor a fine.run)) (ap (λ z. (w.agendas z).work) is_by ∙ sym same) (fine.under_way a ok))
+          subst (λ z. HasOwnEvents v a z (of_actor a fine.run) t.work) (ap (λ z. (w.agendas z).number) is_by ∙ sym same_number)
+          (subst (HasOwnEvents v a (w.agendas a).number (of_actor a fine.run)) (ap (λ z. (w.agendas z).work) is_by ∙ sym same) (fine.under_way a ok))
       way-of fine a ok false apart = fine.under_way a ok
 
       todo-of : IsFine v old w → (a : Actor) (b : Bool) → same_actor a by ≡ b → AllByRecursion (IsOperation v a) (cond b t (w.agendas a)).todo
@@ -325,7 +325,7 @@ module _ (v : Volume) (tells : IsTelling v) (old : List Event) where
       (λ fine few. node-law v question w.log Admin n (w.nodes n) given x (in-runs v old w fine) there (fine.nodes_are n)
       (short-word (λ y. same_word (Node n) (word_of y)) w.log few) proper given_is opening some) is
 
-  told-opening : (given : NodeAnswer) → IsTold given → IsOpening given
+  told-opening : (given : NodeAnswer) → IsAnswerInPlay given → IsOpening given
   told-opening (answer.Start start.NoMemory) is = absurd is
   told-opening (answer.Start (start.Started took)) is = is
   told-opening (answer.Start start.NotDown) is = is
@@ -335,7 +335,7 @@ module _ (v : Volume) (tells : IsTelling v) (old : List Event) where
   abbrev IsAdmins : ℕ → Event → Type 0
   IsAdmins n x = (by_of x ≡ Admin) × (word_of x ≡ Node n)
 
-  by-stop : (w next : World) (n : ℕ) → IsNodeOf v n → (given : NodeAnswer) → IsNodeAnswer (cells_of v n) (w.nodes n) ask.Stop given → IsTold given
+  by-stop : (w next : World) (n : ℕ) → IsNodeOf v n → (given : NodeAnswer) → IsNodeAnswer (cells_of v n) (w.nodes n) ask.Stop given → IsAnswerInPlay given
       → next ≡ record (answered w n ask.Stop given) { log = noted (node_event Admin n ask.Stop given) w.log } → Leads v old w next 1
   by-stop w next n there (answer.Stop true) given_is is_told is =
       call-of w next n there ask.Stop (answer.Stop true) given_is tt tt (λ x some. subst (IsAdmins n) (the_some _ x some) (refl, refl)) (λ none. cc) (Some (e.Stop n)) refl is
@@ -343,7 +343,7 @@ module _ (v : Volume) (tells : IsTelling v) (old : List Event) where
       call-of w next n there ask.Stop (answer.Stop false) given_is tt tt (λ x some. cc) (λ none. refl) None refl is
   by-stop w next n there (_) given_is is_told is = absurd given_is
 
-  by-start : (w next : World) (n : ℕ) → IsNodeOf v n → (given : NodeAnswer) → IsNodeAnswer (cells_of v n) (w.nodes n) ask.Start given → IsTold given
+  by-start : (w next : World) (n : ℕ) → IsNodeOf v n → (given : NodeAnswer) → IsNodeAnswer (cells_of v n) (w.nodes n) ask.Start given → IsAnswerInPlay given
       → next ≡ record (answered w n ask.Start given) { log = noted (node_event Admin n ask.Start given) w.log } → Leads v old w next 1
   by-start w next n there (answer.Start (start.Started took)) given_is is_told is =
       call-of w next n there ask.Start (answer.Start (start.Started took)) given_is tt tt (λ x some. subst (IsAdmins n) (the_some _ x some) (refl, refl)) (λ none. cc) (Some (e.Start n took)) refl is
@@ -355,7 +355,7 @@ module _ (v : Volume) (tells : IsTelling v) (old : List Event) where
       (Some (e.Unopened n (number_of cause))) refl is
   by-start w next n there (_) given_is is_told is = absurd given_is
 
-  by-lose : (w next : World) (n : ℕ) → IsNodeOf v n → (given : NodeAnswer) → IsNodeAnswer (cells_of v n) (w.nodes n) ask.Lose given → IsTold given
+  by-lose : (w next : World) (n : ℕ) → IsNodeOf v n → (given : NodeAnswer) → IsNodeAnswer (cells_of v n) (w.nodes n) ask.Lose given → IsAnswerInPlay given
       → next ≡ record (answered w n ask.Lose given) { log = noted (node_event Admin n ask.Lose given) w.log } → Leads v old w next 1
   by-lose w next n there (answer.Lose (Some loss)) given_is is_told is =
       call-of w next n there ask.Lose (answer.Lose (Some loss)) given_is tt tt (λ x some. subst (IsAdmins n) (the_some _ x some) (refl, refl)) (λ none. cc) (Some (e.Lose n loss)) refl is

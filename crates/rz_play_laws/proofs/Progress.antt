@@ -47,7 +47,7 @@ use Rattle.rz_operation_model.specs.Ask.{ask_of}
 use Rattle.rz_events.specs.Masks.{has_bit}
 use Rattle.rz_play.specs.World.{World, Agenda, actors, Bars, IsFree, at_work}
 use Rattle.rz_play.specs.Turns.{IsTurn, IsAskTurn, IsThrough, IsLost, Through, ReplyLost, RequestLost, IsGranted, lock_on, counted}
-use Rattle.rz_play_laws.specs.Own.{IsOfActor, IsProper, IsUnderWay}
+use Rattle.rz_play_laws.specs.Own.{IsOfActor, IsProper, HasOwnEvents}
 use Rattle.rz_play_laws.specs.Fine.{IsFine, IsSeated}
 use Rattle.rz_play_laws.proofs.OwnTurns.{proper}
 use Rattle.rz_play_laws.proofs.Plays.{IsAtWork, working}
@@ -279,7 +279,7 @@ going v f o run by number Rest is = tt
 pub turns-on : (v : Volume) (old : List Event) (w : World) → IsFine v old w → (by : Actor) → IsSeated by → (next : World) × IsTurn v by w next
 turns-on v old w fine by ok = go (working v old w fine by ok) (working v old w fine by ok).way
   where
-    go : IsAtWork v (facts w.log) (of_actor by w.log) (of_actor by fine.run) by (at_work (w.agendas by)) → IsUnderWay v by (at_work (w.agendas by)).number (of_actor by fine.run) (at_work (w.agendas by)).work
+    go : IsAtWork v (facts w.log) (of_actor by w.log) (of_actor by fine.run) by (at_work (w.agendas by)) → HasOwnEvents v by (at_work (w.agendas by)).number (of_actor by fine.run) (at_work (w.agendas by)).work
         → (next : World) × IsTurn v by w next
     go t (inl over) = (counted w, subst (λ z. IsAskTurn v (counted w) by (at_work (w.agendas by)) (ask_of v.layout z) (counted w)) (sym over) refl)
     go t (inr course) =

@@ -45,7 +45,7 @@ use Rattle.rz_operation_model.specs.Ask.{SayGot, is_part, ask_of, read_asks}
 use Rattle.rz_operation_model.specs.Steps.{Told, Replied, Answered, Missed, told}
 use Rattle.rz_play.specs.Turns.{found_text}
 use Rattle.rz_core.specs.Courses.{IsCourse}
-use Rattle.rz_play_laws.specs.Own.{IsPlacing, IsToldBy, AreToldBy, IsFetching, IsLookedUp, IsReadStage, IsRead, InCourse, IsOwn, IsProper}
+use Rattle.rz_play_laws.specs.Own.{IsPlacing, IsToldBy, AreToldBy, IsFetching, IsLookedUp, IsReadStage, HasReadEvents, InCourse, IsOwnOf, IsProper}
 use Rattle.rz_operation_model.specs.Turns.{IsStep}
 use Rattle.rz_play_laws.proofs.Words.{same, other, skip-last, skip-since}
 use Rattle.rz_play_laws.proofs.Steps.{export-step, node-step, say-step}
@@ -226,11 +226,11 @@ module _ (v : Volume) (f g : Facts) (ext : Extends f g) (o run : List Event) (by
 
   -- what is to be shown of a step
   abbrev IsNext : ReadStage → Told → List Event → Type 0
-  IsNext stage t xs = AreToldBy v g xs → IsOwn v g (xs ++ o) (xs ++ run) by (told v.layout (Reading course (state stage)) t)
+  IsNext stage t xs = AreToldBy v g xs → IsOwnOf v g (xs ++ o) (xs ++ run) by (told v.layout (Reading course (state stage)) t)
 
   -- it goes on with this stage
   goes : (stage : ReadStage) (xs : List Event) → IsOpen (xs ++ run) → IsReadStage v g (xs ++ o) by key places stage
-      → IsOwn v g (xs ++ o) (xs ++ run) by (Reading course (state stage))
+      → IsOwnOf v g (xs ++ o) (xs ++ run) by (Reading course (state stage))
   goes stage xs going is = (going, record { layout_is = refl; placing = placing-more v f g ext key.fid places placing; stage = is }, course-more v f g ext course in_course)
 
   look-step : (r : Reply) (x : Event) → look_event by (call.Look key) r ≡ Some x → IsNext reading.Looking (Replied r) (x ∷ [])
@@ -384,14 +384,14 @@ read-proper v f o run by number course key places placing (reading.Ended mark) g
 -- The same of a state that has the layout of the volume.
 
 pub own-read : (v : Volume) (f g : Facts) → Extends f g → (o run : List Event) (by : Actor) (number : ℕ) (course : Course) (s : ReaderState)
-    → IsRead v f o by s → InCourse v f course → (t : Told) (xs : List Event) → IsStep by number (ask_of v.layout (Reading course s)) t xs
-    → AreToldBy v g xs → IsOwn v g (xs ++ o) (xs ++ run) by (told v.layout (Reading course s) t)
+    → HasReadEvents v f o by s → InCourse v f course → (t : Told) (xs : List Event) → IsStep by number (ask_of v.layout (Reading course s)) t xs
+    → AreToldBy v g xs → IsOwnOf v g (xs ++ o) (xs ++ run) by (told v.layout (Reading course s) t)
 own-read v f g ext o run by number course s w in_course t xs =
     subst (λ y. (let z : ReaderState = record { layout = y; key = s.key; places = s.places; stage = s.stage } in
-    IsStep by number (ask_of v.layout (Reading course z)) t xs → AreToldBy v g xs → IsOwn v g (xs ++ o) (xs ++ run) by (told v.layout (Reading course z) t))) (sym w.layout_is)
+    IsStep by number (ask_of v.layout (Reading course z)) t xs → AreToldBy v g xs → IsOwnOf v g (xs ++ o) (xs ++ run) by (told v.layout (Reading course z) t))) (sym w.layout_is)
     (λ step. read-step v f g ext o run by number s.key s.places w.placing course in_course s.stage w.stage t xs step)
 
-pub proper-read : (v : Volume) (f : Facts) (o run : List Event) (by : Actor) (number : ℕ) (course : Course) (s : ReaderState) → IsOpen run → IsRead v f o by s → IsCourse v.layout by number run (Reading course s) → IsProper v f o run by number (ask_of v.layout (Reading course s))
+pub proper-read : (v : Volume) (f : Facts) (o run : List Event) (by : Actor) (number : ℕ) (course : Course) (s : ReaderState) → IsOpen run → HasReadEvents v f o by s → IsCourse v.layout by number run (Reading course s) → IsProper v f o run by number (ask_of v.layout (Reading course s))
 proper-read v f o run by number course s going w =
     subst (λ y. (let z : ReaderState = record { layout = y; key = s.key; places = s.places; stage = s.stage } in
     IsCourse v.layout by number run (Reading course z) → IsProper v f o run by number (ask_of v.layout (Reading course z)))) (sym w.layout_is)

@@ -49,7 +49,7 @@ use Rattle.rz_operation_model.specs.Work.{Rebuilding}
 use Rattle.rz_operation_model.specs.Ask.{SayLeft, ask_of, rebuild_asks, refill_head}
 use Rattle.rz_operation_model.specs.Turns.{IsStep}
 use Rattle.rz_operation_model.specs.Steps.{Told, Replied, Answered, Missed, told, in_rebuild}
-use Rattle.rz_play_laws.specs.Own.{IsPlacing, IsListedAt, IsToldBy, AreToldBy, IsFetching, HasReplaced, IsOfFirst, IsCopying, IsFilling, IsRebuildStage, IsOwn, IsProper}
+use Rattle.rz_play_laws.specs.Own.{IsPlacing, IsListedAt, IsToldBy, AreToldBy, IsFetching, HasReplaced, IsOfFirst, IsCopying, IsFilling, HasRebuildEvents, IsOwnOf, IsProper}
 use Rattle.rz_play_laws.proofs.Words.{same, skip-last, has-more}
 use Rattle.rz_play_laws.proofs.Steps.{export-step, node-step, say-step}
 use Rattle.rz_play_laws.proofs.Blocks.{placing-more}
@@ -91,7 +91,7 @@ first-more f g ext s length base known is =
 module _ (v : Volume) (f g : Facts) (ext : Extends f g) (o run : List Event) (by : Actor) (number n : ℕ) (there : IsNodeOf v n) where
   -- what is to be shown of a step
   abbrev IsNext : RebuildState → Told → List Event → Type 0
-  IsNext state t xs = AreToldBy v g xs → IsOwn v g (xs ++ o) (xs ++ run) by (told v.layout (Rebuilding n state) t)
+  IsNext state t xs = AreToldBy v g xs → IsOwnOf v g (xs ++ o) (xs ++ run) by (told v.layout (Rebuilding n state) t)
 
   -- The lost disk.
 
@@ -155,7 +155,7 @@ module _ (v : Volume) (f g : Facts) (ext : Extends f g) (o run : List Event) (by
     -- it goes on
     copying : (xs : List Event) (now : ℕ) (nt : Fetches) → IsOpen (xs ++ run) → last is_next (xs ++ o) ≡ last is_next o → before is_next (xs ++ o) ≡ before is_next o
         → nt.stamp ≡ ft.stamp → IsFetching v g (xs ++ o) is_next l.key l.info.places nt → (0 < nt.given → IsOfFirst g nt.stamp nt.length now)
-        → IsRebuildStage v g (xs ++ o) (xs ++ run) by n (Copying t l now (state (reading.Fetching nt)))
+        → HasRebuildEvents v g (xs ++ o) (xs ++ run) by n (Copying t l now (state (reading.Fetching nt)))
     copying xs now nt going none older stamp fetching first = (
       going,
       (
@@ -188,7 +188,7 @@ module _ (v : Volume) (f g : Facts) (ext : Extends f g) (o run : List Event) (by
       abbrev loses : Bool → Event
       loses lost = e.Missed by node lost
 
-      unseen : (a : FetchAnswer) → is_held (seen_of a) ≡ false → IsRebuildStage v g (gets a ∷ o) (gets a ∷ run) by n (Copying t l base (state (reading.Fetching (with_seen ft (seen_of a)))))
+      unseen : (a : FetchAnswer) → is_held (seen_of a) ≡ false → HasRebuildEvents v g (gets a ∷ o) (gets a ∷ run) by n (Copying t l base (state (reading.Fetching (with_seen ft (seen_of a)))))
       unseen a is =
           let quiet = quiet-next by node l.key (next_position ft) ft.stamp a in
           copying (gets a ∷ []) base (with_seen ft (seen_of a)) (fetch-ends by node l.key (next_position ft) ft.stamp a) (skip-last is_next (gets a) o quiet) (skip-before is_next (gets a) o quiet) refl
@@ -204,7 +204,7 @@ module _ (v : Volume) (f g : Facts) (ext : Extends f g) (o run : List Event) (by
       held : (r : Held) (b : Begun) → g.wrote ft.stamp ≡ Some b → r.length ≡ length b.text → r.base ≡ b.base → (r.stamp == ft.stamp) ≡ true → (less : Bool) → nat_lt (ft.given + 1) (inverse_of v.layout) ≡ less
           → (let now = base_after (reading.Fetching ft) base (fetch.Held r) in
           let stage = cond less (reading.Fetching (with_record ft r.length)) (reading.Ended (mark.Found ft.stamp (cond (ft.given == 0) r.length ft.length))) in
-          IsRebuildStage v g (gets (fetch.Held r) ∷ o) (gets (fetch.Held r) ∷ run) by n (after_read t l now (state stage) (reader_end (state stage))))
+          HasRebuildEvents v g (gets (fetch.Held r) ∷ o) (gets (fetch.Held r) ∷ run) by n (after_read t l now (state stage) (reader_end (state stage))))
       held r b found long from same true less =
           copying (gets (fetch.Held r) ∷ []) (base_after (reading.Fetching ft) base (fetch.Held r)) (with_record ft r.length) refl refl refl refl
           (record-more v f g ext o by is_next (quiet-next by) (λ m lost. refl) l.key l.info.places c.listed.placing ft c.fetching some r (ltb-true (ft.given + 1) (inverse_of v.layout) less))
@@ -225,11 +225,11 @@ module _ (v : Volume) (f g : Facts) (ext : Extends f g) (o run : List Event) (by
       )
 
       after : (a : FetchAnswer) → IsToldBy v g (gets a)
-          → (let next = state (after_fetch v.layout true ft a) in IsRebuildStage v g (gets a ∷ o) (gets a ∷ run) by n (after_read t l (base_after (reading.Fetching ft) base a) next (reader_end next)))
+          → (let next = state (after_fetch v.layout true ft a) in HasRebuildEvents v g (gets a ∷ o) (gets a ∷ run) by n (after_read t l (base_after (reading.Fetching ft) base a) next (reader_end next)))
       after (fetch.Held r) told =
           let same = eq-eqb r.stamp ft.stamp told.1.stamp in
           subst (λ y. (let next = state (cond y (unless_enough v.layout true (with_record ft r.length)) (reading.Fetching (with_seen ft seen.Held))) in
-          IsRebuildStage v g (gets (fetch.Held r) ∷ o) (gets (fetch.Held r) ∷ run) by n (after_read t l (base_after (reading.Fetching ft) base (fetch.Held r)) next (reader_end next)))) (sym same)
+          HasRebuildEvents v g (gets (fetch.Held r) ∷ o) (gets (fetch.Held r) ∷ run) by n (after_read t l (base_after (reading.Fetching ft) base (fetch.Held r)) next (reader_end next)))) (sym same)
           (held r told.0 told.1.found told.1.length told.1.base same (nat_lt (ft.given + 1) (inverse_of v.layout)) refl)
       after fetch.Nothing told = unseen fetch.Nothing refl
       after fetch.Lost told = unseen fetch.Lost refl
@@ -278,7 +278,7 @@ module _ (v : Volume) (f g : Facts) (ext : Extends f g) (o run : List Event) (by
       rechecked : (p : Option Published) (b : Bool) → (stamp_told p == ft.stamp) ≡ b
           → (let next = state (reading.Ended (cond b (mark.TooFew ft.seen) (mark.Moved ft.stamp (stamp_told p)))) in
           let x = e.Recheck by l.key p in
-          IsRebuildStage v g (x ∷ o) (x ∷ run) by n (after_read t l base next (reader_end next)))
+          HasRebuildEvents v g (x ∷ o) (x ∷ run) by n (after_read t l base next (reader_end next)))
       unfolding copy
       rechecked p true is = (
         has-replaced (e.Recheck by l.key p ∷ []),
@@ -336,10 +336,10 @@ module _ (v : Volume) (f g : Facts) (ext : Extends f g) (o run : List Event) (by
     }
 
     -- it left the block
-    leaves : (xs : List Event) (why : LeftWhy) → LeftRow v g (xs ++ o) by l.key why → IsOwn v g (xs ++ o) (xs ++ run) by (Rebuilding n (Leaving t l.key why))
+    leaves : (xs : List Event) (why : LeftWhy) → LeftRow v g (xs ++ o) by l.key why → IsOwnOf v g (xs ++ o) (xs ++ run) by (Rebuilding n (Leaving t l.key why))
     leaves xs why row = (there, (has-replaced-then xs, row))
 
-    filled : (a : RefillAnswer) → IsOwn v g (fills a ∷ o) (fills a ∷ run) by (in_rebuild n (after_refill t l a))
+    filled : (a : RefillAnswer) → IsOwnOf v g (fills a ∷ o) (fills a ∷ run) by (in_rebuild n (after_refill t l a))
     filled refill.Kept = (there, has-replaced-then (fills refill.Kept ∷ []))
     filled (refill.Passed held) = (there, has-replaced-then (fills (refill.Passed held) ∷ []))
     filled refill.Lost = tt
@@ -367,7 +367,7 @@ module _ (v : Volume) (f g : Facts) (ext : Extends f g) (o run : List Event) (by
 
   -- Each state.
 
-  pub own-rebuilding : (state : RebuildState) → IsRebuildStage v f o run by n state → (t : Told) (xs : List Event)
+  pub own-rebuilding : (state : RebuildState) → HasRebuildEvents v f o run by n state → (t : Told) (xs : List Event)
       → IsStep by number (ask_of v.layout (Rebuilding n state)) t xs → IsNext state t xs
   own-rebuilding Probing own t xs step =
       node-step by n ask.Probe (λ z zs. IsNext Probing z zs) probed (λ given x event link. cc) (λ link. cc) t xs step
@@ -394,7 +394,7 @@ copying-proper : (v : Volume) (f : Facts) (o run : List Event) (by : Actor) (num
 copying-proper v f o run by number n key places placing t h looked going true is = fetching-proper v f o run by number false is_next key places placing t h looked going true is
 copying-proper v f o run by number n key places placing t h looked going false is = fetching-proper v f o run by number false is_next key places placing t h looked going false is
 
-pub proper-rebuilding : (v : Volume) (f : Facts) (o run : List Event) (by : Actor) (number n : ℕ) → IsNodeOf v n → (state : RebuildState) → IsRebuildStage v f o run by n state
+pub proper-rebuilding : (v : Volume) (f : Facts) (o run : List Event) (by : Actor) (number n : ℕ) → IsNodeOf v n → (state : RebuildState) → HasRebuildEvents v f o run by n state
     → IsProper v f o run by number (ask_of v.layout (Rebuilding n state))
 proper-rebuilding v f o run by number n there Probing own = (tt, there, tt, λ link. cc)
 proper-rebuilding v f o run by number n there (Enrolling loss) own = own

@@ -24,7 +24,7 @@ use Rattle.rz_core.specs.NodeRows.{IsNodeOf}
 use Rattle.rz_core.specs.Courses.{does}
 use Rattle.rz_operation_model.specs.Ranges.{bytes_of}
 use Rattle.rz_operation_model.specs.Steps.{begun}
-use Rattle.rz_play_laws.specs.Own.{IsOnNames, IsOwn}
+use Rattle.rz_play_laws.specs.Own.{IsOnNames, IsOwnOf}
 use Rattle.rz_play_laws.specs.Fine.{IsSeated}
 
 -- an actor of a script is a client or a rebuilder
@@ -81,7 +81,7 @@ short-datum : (limit : ℕ) (d : Datum) → IsDatum limit d → length (bytes_of
 short-datum limit (datum.Bytes bytes) is = is.1
 short-datum limit (datum.Made len seed) is = subst (λ n. n ≤ limit) (sym (length-map-range_with_len _ 0 len)) is.0
 
-client-begins : (v : Volume) (f : Facts) (o run : List Event) (by : Actor) (op : Operation) → IsOfClient v op → IsOwn v f o run by (begun op)
+client-begins : (v : Volume) (f : Facts) (o run : List Event) (by : Actor) (op : Operation) → IsOfClient v op → IsOwnOf v f o run by (begun op)
 client-begins v f o run by (operation.Tree c) is = on-names c is
 client-begins v f o run by (operation.Put path block d) is = short-datum (block_bytes_of v.layout) d is.2
 client-begins v f o run by (operation.Get path block) is = tt
@@ -91,12 +91,12 @@ client-begins v f o run by (operation.Rebuild n) is = absurd is
 client-begins v f o run by (operation.Update path offset d) is = tt
 client-begins v f o run by (operation.View path offset count) is = tt
 
-rebuilder-begins : (v : Volume) (f : Facts) (o run : List Event) (by : Actor) (op : Operation) → IsOfRebuilder v op → IsOwn v f o run by (begun op)
+rebuilder-begins : (v : Volume) (f : Facts) (o run : List Event) (by : Actor) (op : Operation) → IsOfRebuilder v op → IsOwnOf v f o run by (begun op)
 rebuilder-begins v f o run by (operation.Rebuild n) is = (node-of v n is, tt)
 rebuilder-begins v f o run by (_) is = absurd is
 
 -- the own events of an actor that takes up an operation say where it stands
-pub begins : (v : Volume) (f : Facts) (o run : List Event) (by : Actor) (op : Operation) → IsOperation v by op → IsOwn v f o run by (begun op)
+pub begins : (v : Volume) (f : Facts) (o run : List Event) (by : Actor) (op : Operation) → IsOperation v by op → IsOwnOf v f o run by (begun op)
 begins v f o run (Client n) op is = client-begins v f o run (Client n) op is
 begins v f o run (Rebuilder n) op is = rebuilder-begins v f o run (Rebuilder n) op is
 begins v f o run Admin op is = absurd is

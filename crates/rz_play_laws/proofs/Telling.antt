@@ -40,13 +40,13 @@ use Rattle.rz_events.specs.declared.ends.ReadEnd.TheVariants as read
 use Rattle.rz_events.specs.declared.files.Listed.{Listed}
 use Rattle.rz_export_model.proofs.Firsts.{none_first, none_if}
 use Rattle.rz_operation_model.specs.Rebuild.{position_in, position_of}
-use Rattle.rz_play_laws.specs.Own.{IsPlacing, IsReply, IsToldBy}
+use Rattle.rz_play_laws.specs.Own.{IsPlacing, IsOpenReply, IsToldBy}
 use Rattle.rz_play_laws.specs.Fine.{IsTelling}
 use Rattle.rz_play_laws.proofs.Blocks.{placing-more}
 use Rattle.rz_play_laws.proofs.Rebuilds.{listed-more}
 use Rattle.rz_log_laws.specs.Places.{IsLaid}
 
-reply-extends : (v : Volume) (f g : Facts) → Extends f g → (c : TreeCall) (r : TreeReply) → IsReply v f c r → IsReply v g c r
+reply-extends : (v : Volume) (f g : Facts) → Extends f g → (c : TreeCall) (r : TreeReply) → IsOpenReply v f c r → IsOpenReply v g c r
 reply-extends v f g ext (tree.OpenFile path) (reply.File info) is = placing-more v f g ext info.fid info.places is
 reply-extends v f g ext (tree.OpenFile path) (reply.Refused fault) is = tt
 reply-extends v f g ext (tree.OpenFile path) (_) is = absurd is
@@ -209,7 +209,7 @@ placing v laid h legal x fid info is =
     record { placed = (extends-more (x ∷ []) h).places fid info.places at; many = ps.many; apart = ps.apart; nodes = ps.of_volume }
 
 shape-reply : (v : Volume) → IsLaidOut v → (h : List Event) → IsLegalInRuns v h → (x : Event) (places : List ℕ) (c : TreeCall) (r : TreeReply)
-    → IsShape (export_of v (facts h) (export h)).tree places c r → IsReply v (facts (x ∷ h)) c r
+    → IsShape (export_of v (facts h) (export h)).tree places c r → IsOpenReply v (facts (x ∷ h)) c r
 shape-reply v laid h legal x places (tree.OpenFile path) (reply.File info) is = placing v laid h legal x info.fid info is
 shape-reply v laid h legal x places (tree.OpenFile path) (reply.Refused fault) is = tt
 shape-reply v laid h legal x places (tree.OpenFile path) (_) is = absurd is

@@ -30,7 +30,7 @@ use Rattle.rz_operation_model.specs.Steps.{Told, Replied, Locked, Answered, Miss
 use Rattle.rz_events.specs.declared.operations.Operation.{Operation}
 use Rattle.rz_play.specs.World.{World, Agenda}
 use Rattle.rz_play.specs.Turns.{IsAskTurn, IsExportTurn, IsLockTurn, IsNodeTurn, Through, ReplyLost, RequestLost, IsSayTurn, moved, advanced, answered, text_said, no_miss, with_lost, IsLost}
-use Rattle.rz_play_laws.specs.Own.{IsToldBy, AreToldBy, IsOwn, IsProper, IsUnderWay}
+use Rattle.rz_play_laws.specs.Own.{IsToldBy, AreToldBy, IsOwnOf, IsProper, HasOwnEvents}
 use Rattle.rz_core.proofs.Locality.{next-run}
 use Rattle.rz_script.specs.Lines.{IsOperation}
 use Rattle.rz_operation_model.specs.Turns.{said_event, goes_by_link, IsStep, Through as StepThrough, ReplyLost as StepReplyLost, RequestLost as StepRequestLost}
@@ -48,8 +48,8 @@ pub record IsAfter (v : Volume) (old run : List Event) (w : World) (by : Actor) 
   pub mine : AreBy by xs
   pub legal : IsLegalAfter v old (xs ++ run)
   pub tied : AreTied v (xs ++ w.log) next.nodes next.export
-  pub own : IsSeated by → IsOwn v (facts (xs ++ w.log)) (xs ++ of_actor by w.log) (xs ++ of_actor by run) by work
-  pub course : IsSeated by → IsUnderWay v by number (xs ++ of_actor by run) work
+  pub own : IsSeated by → IsOwnOf v (facts (xs ++ w.log)) (xs ++ of_actor by w.log) (xs ++ of_actor by run) by work
+  pub course : IsSeated by → HasOwnEvents v by number (xs ++ of_actor by run) work
   pub number_is : (next.agendas by).number ≡ number
   pub agenda_is : (a : Actor) → same_actor a by ≡ false → next.agendas a ≡ w.agendas a
   pub work_is : (next.agendas by).work ≡ work
@@ -68,32 +68,32 @@ fine-after v old w fine by number work todo xs next after = record {
   legal = after.legal;
   nodes_are = λ n. subst (λ (h : List Event). IsNode (facts h) (of_word (Node n) h) (next.nodes n)) (sym after.log_is) (after.tied.nodes_are n);
   export_is = subst (λ (h : List Event). IsExport v (facts h) (of_word Export h) next.export) (sym after.log_is) after.tied.export_is;
-  own = λ a ok. subst (λ (h : List Event). IsOwn v (facts h) (of_actor a h) (of_actor a (xs ++ fine.run)) a (next.agendas a).work) (sym after.log_is) (of_a a ok (same_actor a by) refl);
+  own = λ a ok. subst (λ (h : List Event). IsOwnOf v (facts h) (of_actor a h) (of_actor a (xs ++ fine.run)) a (next.agendas a).work) (sym after.log_is) (of_a a ok (same_actor a by) refl);
   under_way = λ a ok. way_of a ok (same_actor a by) refl;
   todo = λ a. todo_of a (same_actor a by) refl;
 }
   where
-    of_a : (a : Actor) → IsSeated a → (b : Bool) → same_actor a by ≡ b → IsOwn v (facts (xs ++ w.log)) (of_actor a (xs ++ w.log)) (of_actor a (xs ++ fine.run)) a (next.agendas a).work
+    of_a : (a : Actor) → IsSeated a → (b : Bool) → same_actor a by ≡ b → IsOwnOf v (facts (xs ++ w.log)) (of_actor a (xs ++ w.log)) (of_actor a (xs ++ fine.run)) a (next.agendas a).work
     of_a a ok true is =
-        subst (λ z. IsOwn v (facts (xs ++ w.log)) (of_actor z (xs ++ w.log)) (of_actor z (xs ++ fine.run)) z (next.agendas z).work) (sym (same_actor-true a by is))
-        (subst (λ (o : List Event). IsOwn v (facts (xs ++ w.log)) o (of_actor by (xs ++ fine.run)) by (next.agendas by).work) (sym (of_actor-mine by xs w.log after.mine))
-        (subst (λ (r : List Event). IsOwn v (facts (xs ++ w.log)) (xs ++ of_actor by w.log) r by (next.agendas by).work) (sym (of_actor-mine by xs fine.run after.mine))
-        (subst (λ z. IsOwn v (facts (xs ++ w.log)) (xs ++ of_actor by w.log) (xs ++ of_actor by fine.run) by z) (sym after.work_is) (after.own (subst IsSeated (same_actor-true a by is) ok)))))
+        subst (λ z. IsOwnOf v (facts (xs ++ w.log)) (of_actor z (xs ++ w.log)) (of_actor z (xs ++ fine.run)) z (next.agendas z).work) (sym (same_actor-true a by is))
+        (subst (λ (o : List Event). IsOwnOf v (facts (xs ++ w.log)) o (of_actor by (xs ++ fine.run)) by (next.agendas by).work) (sym (of_actor-mine by xs w.log after.mine))
+        (subst (λ (r : List Event). IsOwnOf v (facts (xs ++ w.log)) (xs ++ of_actor by w.log) r by (next.agendas by).work) (sym (of_actor-mine by xs fine.run after.mine))
+        (subst (λ z. IsOwnOf v (facts (xs ++ w.log)) (xs ++ of_actor by w.log) (xs ++ of_actor by fine.run) by z) (sym after.work_is) (after.own (subst IsSeated (same_actor-true a by is) ok)))))
     of_a a ok false apart =
-        subst (λ (o : List Event). IsOwn v (facts (xs ++ w.log)) o (of_actor a (xs ++ fine.run)) a (next.agendas a).work) (sym (of_actor-other a by xs w.log apart after.mine))
-        (subst (λ (r : List Event). IsOwn v (facts (xs ++ w.log)) (of_actor a w.log) r a (next.agendas a).work) (sym (of_actor-other a by xs fine.run apart after.mine))
-        (subst (λ (s : Agenda). IsOwn v (facts (xs ++ w.log)) (of_actor a w.log) (of_actor a fine.run) a s.work) (sym (after.agenda_is a apart))
+        subst (λ (o : List Event). IsOwnOf v (facts (xs ++ w.log)) o (of_actor a (xs ++ fine.run)) a (next.agendas a).work) (sym (of_actor-other a by xs w.log apart after.mine))
+        (subst (λ (r : List Event). IsOwnOf v (facts (xs ++ w.log)) (of_actor a w.log) r a (next.agendas a).work) (sym (of_actor-other a by xs fine.run apart after.mine))
+        (subst (λ (s : Agenda). IsOwnOf v (facts (xs ++ w.log)) (of_actor a w.log) (of_actor a fine.run) a s.work) (sym (after.agenda_is a apart))
         (own-others v (facts w.log) (facts (xs ++ w.log)) (extends-more xs w.log) (of_actor a w.log) (of_actor a fine.run) a (w.agendas a).work (fine.own a ok))))
 
-    way_of : (a : Actor) → IsSeated a → (b : Bool) → same_actor a by ≡ b → IsUnderWay v a (next.agendas a).number (of_actor a (xs ++ fine.run)) (next.agendas a).work
+    way_of : (a : Actor) → IsSeated a → (b : Bool) → same_actor a by ≡ b → HasOwnEvents v a (next.agendas a).number (of_actor a (xs ++ fine.run)) (next.agendas a).work
     way_of a ok true is =
-        subst (λ z. IsUnderWay v z (next.agendas z).number (of_actor z (xs ++ fine.run)) (next.agendas z).work) (sym (same_actor-true a by is))
-        (subst (λ (r : List Event). IsUnderWay v by (next.agendas by).number r (next.agendas by).work) (sym (of_actor-mine by xs fine.run after.mine))
-        (subst (λ k. IsUnderWay v by k (xs ++ of_actor by fine.run) (next.agendas by).work) (sym after.number_is)
-        (subst (λ z. IsUnderWay v by number (xs ++ of_actor by fine.run) z) (sym after.work_is) (after.course (subst IsSeated (same_actor-true a by is) ok)))))
+        subst (λ z. HasOwnEvents v z (next.agendas z).number (of_actor z (xs ++ fine.run)) (next.agendas z).work) (sym (same_actor-true a by is))
+        (subst (λ (r : List Event). HasOwnEvents v by (next.agendas by).number r (next.agendas by).work) (sym (of_actor-mine by xs fine.run after.mine))
+        (subst (λ k. HasOwnEvents v by k (xs ++ of_actor by fine.run) (next.agendas by).work) (sym after.number_is)
+        (subst (λ z. HasOwnEvents v by number (xs ++ of_actor by fine.run) z) (sym after.work_is) (after.course (subst IsSeated (same_actor-true a by is) ok)))))
     way_of a ok false apart =
-        subst (λ (r : List Event). IsUnderWay v a (next.agendas a).number r (next.agendas a).work) (sym (of_actor-other a by xs fine.run apart after.mine))
-        (subst (λ (s : Agenda). IsUnderWay v a s.number (of_actor a fine.run) s.work) (sym (after.agenda_is a apart)) (fine.under_way a ok))
+        subst (λ (r : List Event). HasOwnEvents v a (next.agendas a).number r (next.agendas a).work) (sym (of_actor-other a by xs fine.run apart after.mine))
+        (subst (λ (s : Agenda). HasOwnEvents v a s.number (of_actor a fine.run) s.work) (sym (after.agenda_is a apart)) (fine.under_way a ok))
 
     todo_of : (a : Actor) (b : Bool) → same_actor a by ≡ b → AllByRecursion (IsOperation v a) (next.agendas a).todo
     todo_of a true is =
@@ -147,11 +147,11 @@ module _ (v : Volume) (telling : IsTelling v) (old : List Event) (w : World) (fi
   -- what an operation gives for each step
   abbrev Turns : Ask → Type 0
   Turns a = (g : Facts) → Extends f g → (t : Told) (xs : List Event) → IsStep by s.number a t xs → AreToldBy v g xs
-      → IsOwn v g (xs ++ o) (xs ++ r) by (told v.layout s.work t)
+      → IsOwnOf v g (xs ++ o) (xs ++ r) by (told v.layout s.work t)
 
   -- and the step itself
   abbrev Steps : Ask → Type 0
-  Steps a = (t : Told) (xs : List Event) → IsStep by s.number a t xs → IsUnderWay v by s.number (xs ++ r) (told v.layout s.work t)
+  Steps a = (t : Told) (xs : List Event) → IsStep by s.number a t xs → HasOwnEvents v by s.number (xs ++ r) (told v.layout s.work t)
 
   short-word : (p : Event → Bool) (h : List Event) → length h < 2 ^ 64 - 1 → length (filter p h) < 2 ^ 64 - 1
   short-word p h l = let z = word-short p h in omega (arith, z, l)

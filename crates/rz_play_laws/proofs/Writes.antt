@@ -43,7 +43,7 @@ use Rattle.rz_client_model.specs.Write.{is_kept, why_of, mask_of, none_sent, nex
 use Rattle.rz_operation_model.specs.Work.{Course, Writing}
 use Rattle.rz_operation_model.specs.Ask.{AskNode, SayGave, is_part, ask_of, write_asks, head_of}
 use Rattle.rz_operation_model.specs.Steps.{Told, Replied, Answered, Missed, told}
-use Rattle.rz_play_laws.specs.Own.{IsPlacing, IsToldBy, AreToldBy, IsSending, IsWriteStage, IsWrite, InCourse, IsOwn, IsProper}
+use Rattle.rz_play_laws.specs.Own.{IsPlacing, IsToldBy, AreToldBy, IsSending, IsWriteStage, HasWriteEvents, InCourse, IsOwnOf, IsProper}
 use Rattle.rz_operation_model.specs.Turns.{IsStep}
 use Rattle.rz_play_laws.proofs.Blocks.{placing-more, course-more, after-gave, node-there}
 use Rattle.rz_client_model.proofs.Masks.{safe-few, forward-less, bit_at-mask_of, one-if, ones-mask_of}
@@ -63,11 +63,11 @@ module _ (v : Volume) (f g : Facts) (ext : Extends f g) (o run : List Event) (by
 
   -- what is to be shown of a step
   abbrev IsNext : WriteStage → Told → List Event → Type 0
-  IsNext stage t xs = AreToldBy v g xs → IsOwn v g (xs ++ o) (xs ++ run) by (told v.layout (Writing course text (state stage)) t)
+  IsNext stage t xs = AreToldBy v g xs → IsOwnOf v g (xs ++ o) (xs ++ run) by (told v.layout (Writing course text (state stage)) t)
 
   -- it goes on with this stage
   next : (stage : WriteStage) (xs : List Event) → IsOpen (xs ++ run) → IsWriteStage v g (xs ++ o) by key places text stage
-      → IsOwn v g (xs ++ o) (xs ++ run) by (Writing course text (state stage))
+      → IsOwnOf v g (xs ++ o) (xs ++ run) by (Writing course text (state stage))
   next stage xs going is =
       (going, record { layout_is = refl; placing = placing-more v f g ext key.fid places placing; size = size_is; short = short; stage = is }, course-more v f g ext course in_course)
 
@@ -303,15 +303,15 @@ module _ (v : Volume) (f : Facts) (o run : List Event) (by : Actor) (key : Key) 
 -- The same of a state that has the layout of the volume.
 
 pub own-write : (v : Volume) (f g : Facts) → Extends f g → (o run : List Event) (by : Actor) (number : ℕ) (course : Course) (text : List ℕ) (s : WriterState)
-    → IsWrite v f o by text s → InCourse v f course → (t : Told) (xs : List Event) → IsStep by number (ask_of v.layout (Writing course text s)) t xs
-    → AreToldBy v g xs → IsOwn v g (xs ++ o) (xs ++ run) by (told v.layout (Writing course text s) t)
+    → HasWriteEvents v f o by text s → InCourse v f course → (t : Told) (xs : List Event) → IsStep by number (ask_of v.layout (Writing course text s)) t xs
+    → AreToldBy v g xs → IsOwnOf v g (xs ++ o) (xs ++ run) by (told v.layout (Writing course text s) t)
 own-write v f g ext o run by number course text s w in_course t xs =
     subst (λ y. (let z : WriterState = record { layout = y; key = s.key; places = s.places; length = s.length; stage = s.stage } in
-    IsStep by number (ask_of v.layout (Writing course text z)) t xs → AreToldBy v g xs → IsOwn v g (xs ++ o) (xs ++ run) by (told v.layout (Writing course text z) t))) (sym w.layout_is)
+    IsStep by number (ask_of v.layout (Writing course text z)) t xs → AreToldBy v g xs → IsOwnOf v g (xs ++ o) (xs ++ run) by (told v.layout (Writing course text z) t))) (sym w.layout_is)
     (λ step. write-step v f g ext o run by number s.key s.places s.length text w.placing w.size w.short course in_course s.stage w.stage t xs step)
 
 pub proper-write : (v : Volume) (f : Facts) (o run : List Event) (by : Actor) (number : ℕ) (course : Course) (text : List ℕ) (s : WriterState)
-    → IsOpen run → IsWrite v f o by text s → IsCourse v.layout by number run (Writing course text s) → IsProper v f o run by number (ask_of v.layout (Writing course text s))
+    → IsOpen run → HasWriteEvents v f o by text s → IsCourse v.layout by number run (Writing course text s) → IsProper v f o run by number (ask_of v.layout (Writing course text s))
 proper-write v f o run by number course text s going w =
     subst (λ y. (let z : WriterState = record { layout = y; key = s.key; places = s.places; length = s.length; stage = s.stage } in
     IsCourse v.layout by number run (Writing course text z) → IsProper v f o run by number (ask_of v.layout (Writing course text z)))) (sym w.layout_is)

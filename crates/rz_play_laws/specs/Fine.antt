@@ -14,7 +14,7 @@ use Rattle.rz_core.specs.History.{facts, of_word, of_actor}
 use Rattle.rz_core.specs.Legal.{IsLegalInRuns, IsLegalAfter}
 use Rattle.rz_core.specs.Tied.{IsNode, IsExport}
 use Rattle.rz_play.specs.World.{World}
-use Rattle.rz_play_laws.specs.Own.{IsOwn, IsUnderWay, IsToldBy}
+use Rattle.rz_play_laws.specs.Own.{IsOwnOf, HasOwnEvents, IsToldBy}
 
 -- each event of a legal log says what is so for good
 abbrev pub IsTelling : Volume → Type 0
@@ -43,8 +43,8 @@ pub record IsFine (v : Volume) (old : List Event) (w : World) : Type 0 where
   pub legal : IsLegalAfter v old run
   pub nodes_are : (n : ℕ) → IsNode (facts w.log) (of_word (Node n) w.log) (w.nodes n)
   pub export_is : IsExport v (facts w.log) (of_word Export w.log) w.export
-  pub own : (by : Actor) → IsSeated by → IsOwn v (facts w.log) (of_actor by w.log) (of_actor by run) by (w.agendas by).work
-  pub under_way : (by : Actor) → IsSeated by → IsUnderWay v by (w.agendas by).number (of_actor by run) (w.agendas by).work
+  pub own : (by : Actor) → IsSeated by → IsOwnOf v (facts w.log) (of_actor by w.log) (of_actor by run) by (w.agendas by).work
+  pub under_way : (by : Actor) → IsSeated by → HasOwnEvents v by (w.agendas by).number (of_actor by run) (w.agendas by).work
   pub todo : (by : Actor) → AllByRecursion (IsOperation v by) (w.agendas by).todo
 
 -- a log has room for fewer than 2^64 events

@@ -61,13 +61,13 @@ pub record IsPlacing (v : Volume) (f : Facts) (fid : ℕ) (places : List ℕ) : 
 
 -- An open is answered with a file, or is refused, and nothing else is answered with a file. A file that lost its last name
 -- lies at nodes of the volume.
-abbrev pub IsReply : Volume → Facts → TreeCall → TreeReply → Type 0
-IsReply v f (tree.OpenFile path) (reply.File info) = IsPlacing v f info.fid info.places
-IsReply v f (tree.OpenFile path) (reply.Refused fault) = Unit {0}
-IsReply v f (tree.OpenFile path) answer = ⊥
-IsReply v f c (reply.File info) = ⊥
-IsReply v f c (reply.Gone (Some info)) = AllByRecursion (IsNodeOf v) info.places
-IsReply v f c answer = Unit {0}
+abbrev pub IsOpenReply : Volume → Facts → TreeCall → TreeReply → Type 0
+IsOpenReply v f (tree.OpenFile path) (reply.File info) = IsPlacing v f info.fid info.places
+IsOpenReply v f (tree.OpenFile path) (reply.Refused fault) = Unit {0}
+IsOpenReply v f (tree.OpenFile path) answer = ⊥
+IsOpenReply v f c (reply.File info) = ⊥
+IsOpenReply v f c (reply.Gone (Some info)) = AllByRecursion (IsNodeOf v) info.places
+IsOpenReply v f c answer = Unit {0}
 
 -- a block that a node has to hold, of a file that lies at these nodes, this one among them
 pub record IsListedAt (v : Volume) (f : Facts) (node : ℕ) (l : Listed) : Type 0 where
@@ -77,7 +77,7 @@ pub record IsListedAt (v : Volume) (f : Facts) (node : ℕ) (l : Listed) : Type 
 
 -- an event of a legal log says what the permanent facts are, or what its row says of it alone
 abbrev pub IsToldBy : Volume → Facts → Event → Type 0
-IsToldBy v f (e.Meta by c answer) = IsReply v f c answer
+IsToldBy v f (e.Meta by c answer) = IsOpenReply v f c answer
 IsToldBy v f (e.Begin by key stamp base text) = f.wrote stamp ≡ Some (record { by = by; key = key; base = base; text = text })
 IsToldBy v f (e.Publish by key stamp mask (Some refused)) = HasBit mask refused.0
 IsToldBy v f (e.Look by key (Some p)) = (b : Begun) × (f.wrote p.stamp ≡ Some b)
@@ -127,7 +127,7 @@ IsWriteStage v f o by key places text writing.Beginning = Unit {0}
 IsWriteStage v f o by key places text (writing.Sending t) = IsSending v f o by key places text t
 IsWriteStage v f o by key places text (writing.Ended end) = GaveRow v f o by key end
 
-pub record IsWrite (v : Volume) (f : Facts) (o : List Event) (by : Actor) (text : List ℕ) (s : WriterState) : Type 0 where
+pub record HasWriteEvents (v : Volume) (f : Facts) (o : List Event) (by : Actor) (text : List ℕ) (s : WriterState) : Type 0 where
   pub layout_is : s.layout ≡ v.layout
   pub placing : IsPlacing v f s.key.fid s.places
   pub size : s.length ≡ length text
@@ -155,7 +155,7 @@ IsReadStage v f o by key places reading.Looking = Unit {0}
 IsReadStage v f o by key places (reading.Fetching t) = IsLookedUp o by key t.stamp × IsFetching v f o is_look key places t
 IsReadStage v f o by key places (reading.Ended mark) = GotRow v f o by key (read_end (found_text f mark) mark)
 
-pub record IsRead (v : Volume) (f : Facts) (o : List Event) (by : Actor) (s : ReaderState) : Type 0 where
+pub record HasReadEvents (v : Volume) (f : Facts) (o : List Event) (by : Actor) (s : ReaderState) : Type 0 where
   pub layout_is : s.layout ≡ v.layout
   pub placing : IsPlacing v f s.key.fid s.places
   pub stage : IsReadStage v f o by s.key s.places s.stage
@@ -196,21 +196,21 @@ pub record IsFilling (v : Volume) (f : Facts) (o : List Event) (by : Actor) (n :
   pub many : inverse_of v.layout ≤ count_by is_held (seens l.key l.published.stamp (since is_next o) 0 l.info.places)
   pub first : IsOfFirst f l.published.stamp length base
 
-abbrev pub IsRebuildStage : Volume → Facts → List Event → List Event → Actor → ℕ → RebuildState → Type 0
-IsRebuildStage v f o run by n Probing = Unit {0}
-IsRebuildStage v f o run by n (Enrolling loss) = Has o (e.Probe by n (Some loss))
-IsRebuildStage v f o run by n (Replacing loss fence) = Has o (e.Enroll by n loss fence)
-IsRebuildStage v f o run by n (Listing t) = HasReplaced o by n t.fence
-IsRebuildStage v f o run by n (Copying t l base s) = IsOpen run × ((ft : Fetches) × IsCopying v f o by n t l base s ft)
-IsRebuildStage v f o run by n (Refilling t l length base) = IsOpen run × IsFilling v f o by n t l length base
-IsRebuildStage v f o run by n (Leaving t key why) = HasReplaced o by n t.fence × LeftRow v f o by key why
+abbrev pub HasRebuildEvents : Volume → Facts → List Event → List Event → Actor → ℕ → RebuildState → Type 0
+HasRebuildEvents v f o run by n Probing = Unit {0}
+HasRebuildEvents v f o run by n (Enrolling loss) = Has o (e.Probe by n (Some loss))
+HasRebuildEvents v f o run by n (Replacing loss fence) = Has o (e.Enroll by n loss fence)
+HasRebuildEvents v f o run by n (Listing t) = HasReplaced o by n t.fence
+HasRebuildEvents v f o run by n (Copying t l base s) = IsOpen run × ((ft : Fetches) × IsCopying v f o by n t l base s ft)
+HasRebuildEvents v f o run by n (Refilling t l length base) = IsOpen run × IsFilling v f o by n t l length base
+HasRebuildEvents v f o run by n (Leaving t key why) = HasReplaced o by n t.fence × LeftRow v f o by key why
 
 -- Operations.
 
 -- a block that is written is no longer than a block
-abbrev pub IsPlan : Volume → Plan → Type 0
-IsPlan v (OnBlock (PutBlock block text)) = length text ≤ block_bytes_of v.layout
-IsPlan v _ = Unit {0}
+abbrev pub IsBlockPlan : Volume → Plan → Type 0
+IsBlockPlan v (OnBlock (PutBlock block text)) = length text ≤ block_bytes_of v.layout
+IsBlockPlan v _ = Unit {0}
 
 -- no call on names opens a file
 abbrev pub IsOnNames : TreeCall → Type 0
@@ -218,20 +218,20 @@ IsOnNames (tree.OpenFile path) = ⊥
 IsOnNames c = Unit {0}
 
 -- What the own events of an actor say at each state.
-abbrev pub IsOwn : Volume → Facts → List Event → List Event → Actor → Work → Type 0
-IsOwn v f o run by (Calling c) = IsOnNames c
-IsOwn v f o run by (Dropping fid n places) = IsOpen run × HasGone o by fid × AllByRecursion (IsNodeOf v) (n ∷ places)
-IsOwn v f o run by (Opening path plan) = IsPlan v plan
-IsOwn v f o run by (Locking path plan) = Unit {0}
-IsOwn v f o run by (Writing course text s) = IsOpen run × IsWrite v f o by text s × InCourse v f course
-IsOwn v f o run by (Reading course s) = IsOpen run × IsRead v f o by s × InCourse v f course
-IsOwn v f o run by (Rebuilding n s) = IsNodeOf v n × IsRebuildStage v f o run by n s
-IsOwn v f o run by (Ending answer) = Unit {0}
-IsOwn v f o run by Over = IsBetween run
+abbrev pub IsOwnOf : Volume → Facts → List Event → List Event → Actor → Work → Type 0
+IsOwnOf v f o run by (Calling c) = IsOnNames c
+IsOwnOf v f o run by (Dropping fid n places) = IsOpen run × HasGone o by fid × AllByRecursion (IsNodeOf v) (n ∷ places)
+IsOwnOf v f o run by (Opening path plan) = IsBlockPlan v plan
+IsOwnOf v f o run by (Locking path plan) = Unit {0}
+IsOwnOf v f o run by (Writing course text s) = IsOpen run × HasWriteEvents v f o by text s × InCourse v f course
+IsOwnOf v f o run by (Reading course s) = IsOpen run × HasReadEvents v f o by s × InCourse v f course
+IsOwnOf v f o run by (Rebuilding n s) = IsNodeOf v n × HasRebuildEvents v f o run by n s
+IsOwnOf v f o run by (Ending answer) = Unit {0}
+IsOwnOf v f o run by Over = IsBetween run
 
 -- The newest own events of the run are those of the operation in hand, or none is in hand.
-abbrev pub IsUnderWay : Volume → Actor → ℕ → List Event → Work → Type 0
-IsUnderWay v by number run work = (work ≡ Over) ⊎ IsCourse v.layout by number run work
+abbrev pub HasOwnEvents : Volume → Actor → ℕ → List Event → Work → Type 0
+HasOwnEvents v by number run work = (work ≡ Over) ⊎ IsCourse v.layout by number run work
 
 -- The laws of an operation, as the driver of a script and threads use them. `f` has the facts before, and `g` those of the
 -- log with the events of the turn.
@@ -243,14 +243,14 @@ pub record GrowsTo (f g : Facts) : Type 0 where
 -- what an operation asks is proper
 abbrev pub IsOwnProper : Volume → Type 0
 IsOwnProper v = (f : Facts) (o run : List Event) (by : Actor) (number : ℕ) (work : Work)
-    → IsOwn v f o run by work → IsCourse v.layout by number run work → IsProper v f o run by number (ask_of v.layout work)
+    → IsOwnOf v f o run by work → IsCourse v.layout by number run work → IsProper v f o run by number (ask_of v.layout work)
 
 -- after an answer the actor's own events say again how far its operation has come
 abbrev pub IsOwnTurn : Volume → Type 0
-IsOwnTurn v = (f g : Facts) → GrowsTo f g → (o run : List Event) (by : Actor) (number : ℕ) (work : Work) → IsOwn v f o run by work
+IsOwnTurn v = (f g : Facts) → GrowsTo f g → (o run : List Event) (by : Actor) (number : ℕ) (work : Work) → IsOwnOf v f o run by work
     → (t : Told) (xs : List Event) → IsStep by number (ask_of v.layout work) t xs → AreToldBy v g xs
-    → IsOwn v g (xs ++ o) (xs ++ run) by (told v.layout work t)
+    → IsOwnOf v g (xs ++ o) (xs ++ run) by (told v.layout work t)
 
 -- what others do changes nothing
 abbrev pub IsOwnKept : Volume → Type 0
-IsOwnKept v = (f g : Facts) → GrowsTo f g → (o run : List Event) (by : Actor) (work : Work) → IsOwn v f o run by work → IsOwn v g o run by work
+IsOwnKept v = (f g : Facts) → GrowsTo f g → (o run : List Event) (by : Actor) (work : Work) → IsOwnOf v f o run by work → IsOwnOf v g o run by work

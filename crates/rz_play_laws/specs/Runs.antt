@@ -32,5 +32,5 @@ pub record IsRunAfter (v : Volume) (old h : List Event) : Type 0 where
 
 -- A play came to this world, over disks that tell their texts or that do not: at its end, before a turn too many, or between two
 -- turns.
-abbrev pub IsReached : Volume → List Line → Bool → World → World → Type 0
-IsReached v lines tells first last = PlaysLinesOver v lines tells first last ⊎ (StopsLinesOver v TurnsSpent lines tells first last ⊎ BeginsLinesOver v lines tells first last)
+abbrev pub IsWorldReached : Volume → List Line → Bool → World → World → Type 0
+IsWorldReached v lines tells first last = PlaysLinesOver v lines tells first last ⊎ (StopsLinesOver v TurnsSpent lines tells first last ⊎ BeginsLinesOver v lines tells first last)

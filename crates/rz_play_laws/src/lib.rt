@@ -26,9 +26,9 @@ ghost use Rattle.rz_play.specs.Lines.{PlaysLine};
 ghost use Rattle.rz_play.specs.Stops.{StopCause};
 ghost use Rattle.rz_play.specs.Faults.{missed, misses};
 ghost use Rattle.rz_play.specs.Played.{IsPlayedFrom, IsStoppedFrom, IsBegunFrom, IsBegun};
-ghost use Rattle.rz_play_laws.specs.Own.{IsOwn, IsUnderWay, IsOwnTurn, IsOwnKept, IsOwnProper};
+ghost use Rattle.rz_play_laws.specs.Own.{IsOwnOf, HasOwnEvents, IsOwnTurn, IsOwnKept, IsOwnProper};
 ghost use Rattle.rz_play_laws.specs.Fine.{MayBegin, IsSeated, IsFine, IsFineIfShort, IsTelling};
-ghost use Rattle.rz_play_laws.specs.Runs.{IsScript, IsRunAfter, IsReached};
+ghost use Rattle.rz_play_laws.specs.Runs.{IsScript, IsRunAfter, IsWorldReached};
 
 /// What an operation asks is proper, where its own events say how far it has come.
 pub fn own_proper()
@@ -132,8 +132,8 @@ pub fn lined()
 /// In such a world the events of an actor say how far the operation has come that its next turn is of.
 pub fn working()
     ensures { (v : Volume) (old : List AnEvent) (w : World) → (fine : IsFine v old w) → (by : AnActor) → IsSeated by
-        → IsOwn v (facts w.log) (of_actor by w.log) (of_actor by fine.run) by (at_work (w.agendas by)).work
-        × IsUnderWay v by (at_work (w.agendas by)).number (of_actor by fine.run) (at_work (w.agendas by)).work }
+        → IsOwnOf v (facts w.log) (of_actor by w.log) (of_actor by fine.run) by (at_work (w.agendas by)).work
+        × HasOwnEvents v by (at_work (w.agendas by)).number (of_actor by fine.run) (at_work (w.agendas by)).work }
 {}
 
 /// In such a world each actor has a turn, whatever it asks.
@@ -150,5 +150,5 @@ pub fn losses()
 /// So was each one over disks that need not tell their texts.
 pub fn losses_over()
     ensures { (v : Volume) (script : List ALine) (tells : Bool) (nodes : ℕ → NodeState) (export : ExportState) (old : List AnEvent) (last : World)
-        → IsReached v script tells (world_after nodes export old) last → missed last.log ≤ missed old + misses script + last.lost }
+        → IsWorldReached v script tells (world_after nodes export old) last → missed last.log ≤ missed old + misses script + last.lost }
 {}

@@ -15,12 +15,12 @@ use Rattle.rz_script.specs.Lines.{IsActor}
 use Rattle.rz_events.specs.declared.keys.Actor.TheVariants.{Client, Rebuilder, Admin}
 use Rattle.std.specs.List.{AllByRecursion, range_with_len}
 use Rattle.std.proofs.lemmas.Bool.{cases_lt}
-use Rattle.rz_play.specs.World.{actors, World, Agenda, Bars, take_up, at_work}
+use Rattle.rz_play.specs.World.{actors, World, Agenda, Bars, begin_next, at_work}
 use Rattle.rz_locks.specs.declared.conflict.Lock.{Lock}
 use Rattle.rz_locks.specs.Conflicts.{Conflict}
 use Rattle.rz_play.specs.Turns.{IsGranted, lock_after, lock_on}
 use Rattle.rz_play_laws.proofs.Frames.{same_actor-refl, same_actor-true}
-use Rattle.rz_play_locks.specs.Holding.{AreApart}
+use Rattle.rz_play_locks.specs.Holding.{AreLocksApart}
 use Rattle.rz_play_locks.proofs.Moves.{IsMoved, IsLockAfter}
 
 pub turned : (a b : Lock) → Conflict a b → Conflict b a
@@ -78,12 +78,12 @@ others-apart a b apart = go (same_actor b a) refl
 pub lock-at_work : (s : Agenda) → (at_work s).lock ≡ s.lock
 lock-at_work s = go s.work s.todo
   where
-    go : (work : Work) (ops : List Operation) → (take_up s work ops).lock ≡ s.lock
+    go : (work : Work) (ops : List Operation) → (begin_next s work ops).lock ≡ s.lock
     go Over (op ∷ ops) = refl
     go Over [] = refl
     go (_) ops = refl
 
-module _ (v : Volume) (w : World) (apart : AreApart w) (by : Actor) (ok : IsActor by) (s : Agenda) (same : s.lock ≡ (w.agendas by).lock) where
+module _ (v : Volume) (w : World) (apart : AreLocksApart w) (by : Actor) (ok : IsActor by) (s : Agenda) (same : s.lock ≡ (w.agendas by).lock) where
   old : (b : Actor) → IsActor b → (x y : Lock) → same_actor by b ≡ false → s.lock ≡ Some x → (w.agendas b).lock ≡ Some y → ¬ Conflict x y
   old b ok_b x y other is at = apart by b x y ok ok_b other (sym same ∙ is) at
 
@@ -114,7 +114,7 @@ module _ (v : Volume) (w : World) (apart : AreApart w) (by : Actor) (ok : IsActo
   mine Rest t lock after b ok_b x y other is at = old b ok_b x y (others-apart b by other) (sym after ∙ is) at
 
   -- after a turn of the actor
-  pub apart-after : (a : Ask) (next : World) → IsMoved v w by s a next → AreApart next
+  pub apart-after : (a : Ask) (next : World) → IsMoved v w by s a next → AreLocksApart next
   apart-after a next m p q x y ok_p ok_q other at_p at_q = go (same_actor p by) (same_actor q by) refl refl
     where
       go : (c d : Bool) → same_actor p by ≡ c → same_actor q by ≡ d → ¬ Conflict x y

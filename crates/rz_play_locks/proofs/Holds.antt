@@ -32,7 +32,7 @@ use Rattle.rz_locks.specs.declared.conflict.Lock.{Lock}
 use Rattle.rz_play.specs.Turns.{kind_of, lock_on}
 use Rattle.rz_play_locks.specs.Operations.{in_hand, IsUpdate, IsGuarded}
 use Rattle.rz_play_locks.proofs.Geometry.{passed-aligned}
-use Rattle.rz_play_locks.specs.Holding.{IsAligned, IsToGive, lock_for, OfPlan, IsTaking, IsHeld, IsRange, InCourse, IsAlone, IsHolding}
+use Rattle.rz_play_locks.specs.Holding.{IsAligned, IsToGive, lock_for, OfPlan, IsTaking, IsPlanLocked, IsRange, InCourse, IsAlone, IsHolding}
 
 -- a key that is guarded in a log is guarded in each beginning of it
 pub guarded-before : (ops : Actor → List Operation) (key : Key) (x : Event) (h : List Event) → IsGuarded ops key (x ∷ h) → IsGuarded ops key h
@@ -59,7 +59,7 @@ module _ (layout : Layout) (op : Operation) (lock : Option Lock) where
   L work = Later layout op lock work
 
   -- a range goes on
-  pub go-later : (r : Range) (path : List ℕ) (plan : RangePlan) → IsHeld layout op lock path plan r.info.fid → OfPlan plan r → r.done ≤ r.size → (r.done < r.size → IsAligned layout r) → L (in_range (go_on layout r))
+  pub go-later : (r : Range) (path : List ℕ) (plan : RangePlan) → IsPlanLocked layout op lock path plan r.info.fid → OfPlan plan r → r.done ≤ r.size → (r.done < r.size → IsAligned layout r) → L (in_range (go_on layout r))
   go-later r path plan held range low aligned = go (r.done == r.size) refl
     where
       block : r.done < r.size → (aim : Aim) → r.aim ≡ aim → L (in_range (next_block layout r aim))
@@ -108,7 +108,7 @@ module _ (layout : Layout) (op : Operation) (lock : Option Lock) where
   block-later r key is (_) = tt
 
   -- the file is open
-  pub range-later : (info : FileInfo) (path : List ℕ) (plan : RangePlan) → IsHeld layout op lock path plan info.fid → L (range_planned layout info plan)
+  pub range-later : (info : FileInfo) (path : List ℕ) (plan : RangePlan) → IsPlanLocked layout op lock path plan info.fid → L (range_planned layout info plan)
   range-later info path (WriteBytes offset bytes) held =
       go-later (record { info = info; offset = offset; size = length bytes; done = 0; aim = Giving bytes }) path (WriteBytes offset bytes) held (refl, refl, refl) (omega arith) (λ left. inl refl)
   range-later info path (ReadBytes offset count) held =

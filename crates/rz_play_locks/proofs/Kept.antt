@@ -16,10 +16,10 @@ use Rattle.rz_operation_model.specs.Work.{Work, Calling, Dropping, Opening, Lock
 use Rattle.rz_operation_model.specs.Ask.{Ask, AskExport, AskNode, AskLock, Say, Rest, Saying, SayGot, SayGave, SayLeft, SayDone, ask_of}
 use Rattle.rz_operation_model.specs.Steps.{Told, begun, told}
 use Rattle.rz_operation_model.specs.Turns.{IsStep, said_event}
-use Rattle.rz_play.specs.World.{World, Agenda, take_up, at_work}
+use Rattle.rz_play.specs.World.{World, Agenda, begin_next, at_work}
 use Rattle.rz_locks.specs.declared.conflict.Lock.{Lock}
 use Rattle.rz_play.specs.Turns.{IsTurn, IsAskTurn, counted}
-use Rattle.rz_play_laws.specs.Own.{IsOwn, IsProper}
+use Rattle.rz_play_laws.specs.Own.{IsOwnOf, IsProper}
 use Rattle.rz_script.specs.Lines.{IsActor}
 use Rattle.rz_play_laws.specs.Fine.{IsFine}
 use Rattle.rz_play_laws.proofs.Frames.{AreBy, of_actor-mine, of_actor-other, same_actor-true}
@@ -29,7 +29,7 @@ use Rattle.rz_play_laws.proofs.OwnTurns.{proper}
 use Rattle.rz_play_laws.proofs.Plays.{IsAtWork, working}
 use Rattle.rz_play_laws.proofs.Scripts.{seated}
 use Rattle.rz_play_locks.specs.Operations.{in_hand, ended}
-use Rattle.rz_play_locks.specs.Holding.{IsHolding, InHand, IsAgenda, IsKeeping}
+use Rattle.rz_play_locks.specs.Holding.{IsHolding, InHand, IsAgendaOf, IsKeeping}
 use Rattle.rz_play_locks.proofs.Moves.{IsMoved, moves}
 use Rattle.rz_play_locks.proofs.Barring.{apart-after, lock-at_work}
 use Rattle.rz_play_locks.proofs.Turned.{hand-turn}
@@ -71,7 +71,7 @@ next-of (suc n) (x ∷ all) op ops is = next-of n all op ops is
 -- What others do changes nothing.
 
 pub agenda-frame : (layout : Layout) (ops : Actor → List Operation) (h xs : List Event) (by : Actor) (more : List Operation) (s : Agenda) → of_actor by (xs ++ h) ≡ of_actor by h
-    → IsAgenda layout ops h by more s → IsAgenda layout ops (xs ++ h) by more s
+    → IsAgendaOf layout ops h by more s → IsAgendaOf layout ops (xs ++ h) by more s
 agenda-frame layout ops h xs by more s own is = record {
   rest = is.rest;
   hand = subst (λ (o : List Event). InHand layout ops o by s.number s.lock s.work) (sym own) is.hand;
@@ -79,7 +79,7 @@ agenda-frame layout ops h xs by more s own is = record {
 
 -- An operation is taken up.
 
-module _ (layout : Layout) (ops : Actor → List Operation) (h : List Event) (by : Actor) (more : List Operation) (s : Agenda) (is : IsAgenda layout ops h by more s) where
+module _ (layout : Layout) (ops : Actor → List Operation) (h : List Event) (by : Actor) (more : List Operation) (s : Agenda) (is : IsAgendaOf layout ops h by more s) where
   begins : (op : Operation) → ended (of_actor by h) ≡ s.number → s.lock ≡ None → slice_get (ops by) s.number ≡ Some op → InHand layout ops (of_actor by h) by (s.number + 1) s.lock (begun op)
   begins op count none at = go op (ap (slice_get (ops by)) count ∙ at)
     where
@@ -93,7 +93,7 @@ module _ (layout : Layout) (ops : Actor → List Operation) (h : List Event) (by
       go (operation.Update path offset datum) at = (ap (λ k. k + 1) count, (operation.Update path offset datum, at, (refl, none)))
       go (operation.View path offset size) at = (ap (λ k. k + 1) count, (operation.View path offset size, at, (refl, none)))
 
-  up : (work : Work) (todo : List Operation) → s.work ≡ work → s.todo ≡ todo → IsAgenda layout ops h by more (take_up s work todo)
+  up : (work : Work) (todo : List Operation) → s.work ≡ work → s.todo ≡ todo → IsAgendaOf layout ops h by more (begin_next s work todo)
   up Over (op ∷ rest) at todo =
       let hand : InHand layout ops (of_actor by h) by s.number s.lock Over = subst (InHand layout ops (of_actor by h) by s.number s.lock) at is.hand in
       let k = next-of s.number (ops by) op (rest ++ more) (subst (λ (z : List Operation). z ++ more ≡ drop s.number (ops by)) todo is.rest) in
@@ -111,7 +111,7 @@ module _ (layout : Layout) (ops : Actor → List Operation) (h : List Event) (by
   up (Rebuilding n r) todo at same = is
   up (Ending a) todo at same = is
 
-  pub agenda-at_work : IsAgenda layout ops h by more (at_work s)
+  pub agenda-at_work : IsAgendaOf layout ops h by more (at_work s)
   agenda-at_work = up s.work s.todo refl refl
 
 -- nothing is in hand, or an operation
@@ -136,11 +136,11 @@ hand-of layout ops o by number lock (Ending a) is = inr (record { op = is.1.0; c
 -- A turn, with all that is known of the actor at work; `run` has the events of this run before it.
 pub record IsGoing (v : Volume) (ops : Actor → List Operation) (run : List Event) (w : World) (by : Actor) (s : Agenda) (next : World) : Type 0 where
   pub move : IsMoved v (counted w) by s (ask_of v.layout s.work) next
-  pub own : IsOwn v (facts w.log) (of_actor by w.log) (of_actor by run) by s.work
+  pub own : IsOwnOf v (facts w.log) (of_actor by w.log) (of_actor by run) by s.work
   pub proper : IsProper v (facts w.log) (of_actor by w.log) (of_actor by run) by s.number (ask_of v.layout s.work)
   pub hand : IsInHand v.layout ops (of_actor by run) by s.number s.lock s.work
   pub mine : AreBy by move.xs
-  pub after : IsOwn v (facts (move.xs ++ w.log)) (move.xs ++ of_actor by w.log) (move.xs ++ of_actor by run) by (told v.layout s.work move.t)
+  pub after : IsOwnOf v (facts (move.xs ++ w.log)) (move.xs ++ of_actor by w.log) (move.xs ++ of_actor by run) by (told v.layout s.work move.t)
 
 -- the events that a turn, or a line, adds are of this run
 pub runs-on : (v : Volume) (old : List Event) (w next : World) (fine : IsFine v old w) (fine_next : IsFine v old next) (xs : List Event) → next.log ≡ xs ++ w.log → fine_next.run ≡ xs ++ fine.run
@@ -169,15 +169,15 @@ going v old ops more by ok w next fine fine_next keeping turn =
           proper = ok_ask;
           hand = hand;
           mine = by_is;
-          after = subst (λ (r : List Event). IsOwn v (facts (m.xs ++ w.log)) (m.xs ++ all) r by (told v.layout s.work m.t)) (of_actor-mine by m.xs fine.run by_is)
-              (subst (λ (o : List Event). IsOwn v (facts (m.xs ++ w.log)) o (of_actor by (m.xs ++ fine.run)) by (told v.layout s.work m.t)) (of_actor-mine by m.xs w.log by_is)
-              (subst (λ (h : List Event). IsOwn v (facts h) (of_actor by h) (of_actor by (m.xs ++ fine.run)) by (told v.layout s.work m.t)) m.log_is
-              (subst (λ z. IsOwn v (facts next.log) (of_actor by next.log) (of_actor by (m.xs ++ fine.run)) by z) m.work_is
-              (subst (λ (r : List Event). IsOwn v (facts next.log) (of_actor by next.log) (of_actor by r) by (next.agendas by).work) (runs-on v old w next fine fine_next m.xs m.log_is)
+          after = subst (λ (r : List Event). IsOwnOf v (facts (m.xs ++ w.log)) (m.xs ++ all) r by (told v.layout s.work m.t)) (of_actor-mine by m.xs fine.run by_is)
+              (subst (λ (o : List Event). IsOwnOf v (facts (m.xs ++ w.log)) o (of_actor by (m.xs ++ fine.run)) by (told v.layout s.work m.t)) (of_actor-mine by m.xs w.log by_is)
+              (subst (λ (h : List Event). IsOwnOf v (facts h) (of_actor by h) (of_actor by (m.xs ++ fine.run)) by (told v.layout s.work m.t)) m.log_is
+              (subst (λ z. IsOwnOf v (facts next.log) (of_actor by next.log) (of_actor by (m.xs ++ fine.run)) by z) m.work_is
+              (subst (λ (r : List Event). IsOwnOf v (facts next.log) (of_actor by next.log) (of_actor by r) by (next.agendas by).work) (runs-on v old w next fine fine_next m.xs m.log_is)
               (fine_next.own by (seated by ok))))));
         }
 
-    go : (s : Agenda) → IsAtWork v (facts w.log) all mine by s → IsAgenda v.layout ops fine.run by (more by) s → IsAskTurn v (counted w) by s (ask_of v.layout s.work) next
+    go : (s : Agenda) → IsAtWork v (facts w.log) all mine by s → IsAgendaOf v.layout ops fine.run by (more by) s → IsAskTurn v (counted w) by s (ask_of v.layout s.work) next
         → (next ≡ counted w) ⊎ IsGoing v ops fine.run w by s next
     go s at agenda turn = elim (hand-of v.layout ops mine by s.number s.lock s.work agenda.hand) [
       | inl over ↦ inl (subst (λ z. IsAskTurn v (counted w) by s (ask_of v.layout z) next) over turn)
@@ -190,8 +190,8 @@ going v old ops more by ok w next fine fine_next keeping turn =
       ]
     ]
 
-between-of : (v : Volume) (f : Facts) (o run : List Event) (by : Actor) (work : Work) → IsOwn v f o run by work → work ≡ Over → IsBetween run
-between-of v f o run by work own over = subst (IsOwn v f o run by) over own
+between-of : (v : Volume) (f : Facts) (o run : List Event) (by : Actor) (work : Work) → IsOwnOf v f o run by work → work ≡ Over → IsBetween run
+between-of v f o run by work own over = subst (IsOwnOf v f o run by) over own
 
 -- The world after a turn.
 pub keeping-turn : (v : Volume) (old : List Event) (ops more : Actor → List Operation) (by : Actor) → IsActor by → (w next : World) (fine : IsFine v old w) (fine_next : IsFine v old next)
@@ -205,14 +205,14 @@ keeping-turn v old ops more by ok w next fine fine_next keeping turn = elim (goi
   })
 ]
   where
-    agenda : (g : IsGoing v ops fine.run w by (at_work (w.agendas by)) next) → (a : Actor) → IsActor a → (b : Bool) → same_actor a by ≡ b → IsAgenda v.layout ops (g.move.xs ++ fine.run) a (more a) (next.agendas a)
+    agenda : (g : IsGoing v ops fine.run w by (at_work (w.agendas by)) next) → (a : Actor) → IsActor a → (b : Bool) → same_actor a by ≡ b → IsAgendaOf v.layout ops (g.move.xs ++ fine.run) a (more a) (next.agendas a)
     agenda g a is true at =
         let s = at_work (w.agendas by) in
         let before = agenda-at_work v.layout ops fine.run by (more by) (w.agendas by) (keeping.agendas by ok) in
         let m = g.move in
         let now = hand-turn v ops fine.run by s.number g.hand.op g.hand.count g.hand.at (counted w) s (facts w.log) (of_actor by w.log) (of_actor by fine.run) m.t m.xs (next.agendas by).lock s.work g.own g.hand.holds m.step m.lock_is
         (between-of v (facts (m.xs ++ w.log)) (m.xs ++ of_actor by w.log) (m.xs ++ of_actor by fine.run) by (told v.layout s.work m.t) g.after) in
-        subst (λ z. IsAgenda v.layout ops (m.xs ++ fine.run) z (more z) (next.agendas z)) (sym (same_actor-true a by at))
+        subst (λ z. IsAgendaOf v.layout ops (m.xs ++ fine.run) z (more z) (next.agendas z)) (sym (same_actor-true a by at))
         (record {
           rest = subst (λ (z : List Operation). z ++ more by ≡ drop (next.agendas by).number (ops by)) (sym m.todo_is)
               (subst (λ k. s.todo ++ more by ≡ drop k (ops by)) (sym m.number_is) before.rest);
@@ -222,5 +222,5 @@ keeping-turn v old ops more by ok w next fine fine_next keeping turn = elim (goi
         })
     agenda g a is false apart =
         let m = g.move in
-        subst (λ (z : Agenda). IsAgenda v.layout ops (m.xs ++ fine.run) a (more a) z) (sym (m.others a apart))
+        subst (λ (z : Agenda). IsAgendaOf v.layout ops (m.xs ++ fine.run) a (more a) z) (sym (m.others a apart))
         (agenda-frame v.layout ops fine.run m.xs a (more a) (w.agendas a) (of_actor-other a by m.xs fine.run apart g.mine) (keeping.agendas a is))

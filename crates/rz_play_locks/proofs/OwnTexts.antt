@@ -65,8 +65,8 @@ use Rattle.rz_locks.specs.declared.conflict.Lock.{Lock}
 use Rattle.rz_play.specs.Turns.{found_text, text_said}
 use Rattle.rz_play_locks.specs.Operations.{IsUpdate, IsGuarded}
 use Rattle.rz_play_locks.specs.Promises.{published_text, with_bytes, IsUpdated, text_of}
-use Rattle.rz_play_locks.specs.Holding.{lock_for, OfPlan, IsHeld, IsAligned, IsRange, IsHolding}
-use Rattle.rz_play_locks.specs.Texts.{IsLocking, IsAccepted, IsNewest, IsWritten, IsText}
+use Rattle.rz_play_locks.specs.Holding.{lock_for, OfPlan, IsPlanLocked, IsAligned, IsRange, IsHolding}
+use Rattle.rz_play_locks.specs.Texts.{IsLocking, IsWritePublished, ReadsPublished, IsUpdateWritten, IsText}
 use Rattle.rz_play_locks.proofs.Geometry.{part-text, whole-text, passed-aligned}
 use Rattle.rz_play_locks.proofs.Holds.{guarded-back, writer-key}
 use Rattle.rz_play_locks.proofs.Published.{AreSilent, node-quiet, accepted-same, text-same, text-short}
@@ -82,7 +82,7 @@ pub record IsOfUpdate (layout : Layout) (op : Operation) (r : Range) (bytes : Li
   pub updated : (block : ℕ) (old new : List ℕ) → new ≡ with_bytes layout r.offset block bytes old → IsUpdated layout (Some op) block old new
 
 pub of-update : (layout : Layout) (op : Operation) (lock : Option Lock) (path : List ℕ) (plan : RangePlan) (r : Range) (bytes : List ℕ) → IsUpdate (Some op)
-    → IsHeld layout op lock path plan r.info.fid → OfPlan plan r → r.aim ≡ Giving bytes → IsOfUpdate layout op r bytes
+    → IsPlanLocked layout op lock path plan r.info.fid → OfPlan plan r → r.aim ≡ Giving bytes → IsOfUpdate layout op r bytes
 of-update layout (operation.Update p o d) lock path plan r bytes update (inl held) range aim = cc
 of-update layout (operation.Update p o d) lock path plan r bytes update (inr held) range aim =
     let plan_is : plan ≡ WriteBytes o (bytes_of d) = same held.0 in
@@ -127,7 +127,7 @@ module _ (v : Volume) (ops : Actor → List Operation) (run h : List Event) (op 
   opened-not (_) path plan is locking = locking
 
   -- A range goes on.
-  go-text : (xs : List Event) → Fine xs → (lock : Option Lock) (r : Range) (path : List ℕ) (plan : RangePlan) → IsHeld v.layout op lock path plan r.info.fid → OfPlan plan r → r.done ≤ r.size
+  go-text : (xs : List Event) → Fine xs → (lock : Option Lock) (r : Range) (path : List ℕ) (plan : RangePlan) → IsPlanLocked v.layout op lock path plan r.info.fid → OfPlan plan r → r.done ≤ r.size
       → (r.done < r.size → IsAligned v.layout r) → T xs (in_range (go_on v.layout r))
   go-text xs legal lock r path plan held range low aligned = go (r.done == r.size) refl
     where
@@ -177,7 +177,7 @@ module _ (v : Volume) (ops : Actor → List Operation) (run h : List Event) (op 
 
   -- how a read ended, and the text that its event tells
   part-after : (x : Event) → Fine (x ∷ []) → accepted (of_word Export (x ∷ h)) ≡ accepted (of_word Export h) → (lock : Option Lock) (r : Range) (key : Key) → IsRange v.layout op lock r key → (m : ReadMark)
-      → (IsLocking (Some op) → IsGuarded ops key run → IsNewest h key (reading.Ended m)) → T (x ∷ []) (in_range (after_part v.layout r (found_text (facts h) m) m))
+      → (IsLocking (Some op) → IsGuarded ops key run → ReadsPublished h key (reading.Ended m)) → T (x ∷ []) (in_range (after_part v.layout r (found_text (facts h) m) m))
   part-after x legal same lock r key is (mark.Found s size) newest = found-text (x ∷ []) legal lock r key is (found_text (facts h) (mark.Found s size)) (λ locking guarded.
       let n = newest locking (guarded-back ops key (x ∷ []) run guarded) in
       sym (text-same v (x ∷ []) h key legal.0 (ap (λ f. f key) same) ∙ ap (text_of (facts h)) n.1)) r.aim refl
@@ -263,23 +263,23 @@ module _ (v : Volume) (ops : Actor → List Operation) (run h : List Event) (op 
     looking (reply.Denied why) x is legal = λ locking guarded. tt
     looking (_) x is legal = λ locking guarded. tt
 
-    module _ (t0 : Fetches) (old : IsLocking (Some op) → IsGuarded ops key run → IsAccepted h key t0.stamp) where
-      still : (xs : List Event) → AreSilent key xs → IsLocking (Some op) → IsGuarded ops key (xs ++ run) → IsAccepted (xs ++ h) key t0.stamp
+    module _ (t0 : Fetches) (old : IsLocking (Some op) → IsGuarded ops key run → IsWritePublished h key t0.stamp) where
+      still : (xs : List Event) → AreSilent key xs → IsLocking (Some op) → IsGuarded ops key (xs ++ run) → IsWritePublished (xs ++ h) key t0.stamp
       still xs silent locking guarded =
           let o = old locking (guarded-back ops key xs run guarded) in (o.0, accepted-same xs h key silent ∙ o.1)
 
-      after-fetch : (g : List Event) (fits : Bool) (a : FetchAnswer) → IsAccepted g key t0.stamp → IsNewest g key (after_fetch layout fits t0 a)
+      after-fetch : (g : List Event) (fits : Bool) (a : FetchAnswer) → IsWritePublished g key t0.stamp → ReadsPublished g key (after_fetch layout fits t0 a)
       after-fetch g fits (fetch.Held b) is = go (b.stamp == t0.stamp)
         where
-          fit : (f : Bool) → IsNewest g key (reading.Ended (cond f (mark.Found t0.stamp (with_record t0 b.length).length) mark.Inconsistent))
+          fit : (f : Bool) → ReadsPublished g key (reading.Ended (cond f (mark.Found t0.stamp (with_record t0 b.length).length) mark.Inconsistent))
           fit true = is
           fit false = tt
 
-          enough : (f : Bool) → IsNewest g key (cond f (reading.Fetching (with_record t0 b.length)) (reading.Ended (cond fits (mark.Found t0.stamp (with_record t0 b.length).length) mark.Inconsistent)))
+          enough : (f : Bool) → ReadsPublished g key (cond f (reading.Fetching (with_record t0 b.length)) (reading.Ended (cond fits (mark.Found t0.stamp (with_record t0 b.length).length) mark.Inconsistent)))
           enough true = is
           enough false = fit fits
 
-          go : (f : Bool) → IsNewest g key (cond f (unless_enough layout fits (with_record t0 b.length)) (reading.Fetching (with_seen t0 seen.Held)))
+          go : (f : Bool) → ReadsPublished g key (cond f (unless_enough layout fits (with_record t0 b.length)) (reading.Fetching (with_seen t0 seen.Held)))
           go true = enough (nat_lt (with_record t0 b.length).given (inverse_of layout))
           go false = is
       after-fetch g fits (_) is = is
@@ -304,7 +304,7 @@ module _ (v : Volume) (ops : Actor → List Operation) (run h : List Event) (op 
               cases (stamp_told p == t0.stamp) refl (stamp (accepted (of_word Export h) key) o.0 o.1 legal.1.row.told)
             where
               cases : (b : Bool) → (stamp_told p == t0.stamp) ≡ b → stamp_told p ≡ t0.stamp
-                  → IsNewest (e.Recheck by key p ∷ h) key (reading.Ended (cond b (mark.TooFew t0.seen) (mark.Moved t0.stamp (stamp_told p))))
+                  → ReadsPublished (e.Recheck by key p ∷ h) key (reading.Ended (cond b (mark.TooFew t0.seen) (mark.Moved t0.stamp (stamp_told p))))
               cases true is same = tt
               cases false is same = eqb-false (stamp_told p) t0.stamp is same
 
@@ -321,7 +321,7 @@ module _ (v : Volume) (ops : Actor → List Operation) (run h : List Event) (op 
     abbrev Afterwards : List Event → Told → WriteStage → Type 0
     Afterwards xs t stage = T xs (Writing (Within r) text (writer_after (S stage) t))
 
-    any-written : (g : List Event) (k : Key) (stage : WriteStage) → IsUpdated v.layout (Some op) k.block (published_text g k) text → IsWritten v.layout g (Some op) k text stage
+    any-written : (g : List Event) (k : Key) (stage : WriteStage) → IsUpdated v.layout (Some op) k.block (published_text g k) text → IsUpdateWritten v.layout g (Some op) k text stage
     any-written g k writing.Beginning is = is
     any-written g k (writing.Sending t) is = is
     any-written g k (writing.Ended end) is = tt

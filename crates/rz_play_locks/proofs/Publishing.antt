@@ -47,7 +47,7 @@ use Rattle.rz_play_laws.specs.Own.{IsProper}
 use Rattle.rz_play_laws.proofs.Blocks.{block-some}
 use Rattle.rz_play_laws.proofs.Events.{node-event}
 use Rattle.rz_play_locks.specs.Operations.{IsUpdate, in_hand}
-use Rattle.rz_play_locks.specs.Holding.{AreApart, HasBlock, OfPlan, IsHeld, IsRange, InCourse, IsAlone, IsHolding}
+use Rattle.rz_play_locks.specs.Holding.{AreLocksApart, HasBlock, OfPlan, IsPlanLocked, IsRange, InCourse, IsAlone, IsHolding}
 use Rattle.rz_play_locks.proofs.Barring.{others-apart, lock-at_work}
 use Rattle.rz_play_locks.proofs.Kept.{IsGoing}
 
@@ -230,7 +230,7 @@ not-read (_) path offset count update is = absurd update
 pub update-locked : (layout : Layout) (op : Operation) (lock : Option Lock) (r : Range) (key : Key) → IsUpdate (Some op) → IsRange layout op lock r key → IsLocked layout lock key
 update-locked layout op lock r key update is = go is.plan is.held is.range
   where
-    go : (plan : RangePlan) → IsHeld layout op lock is.path plan r.info.fid → OfPlan plan r → IsLocked layout lock key
+    go : (plan : RangePlan) → IsPlanLocked layout op lock is.path plan r.info.fid → OfPlan plan r → IsLocked layout lock key
     go plan (inl held) range = absurd (not-opened op is.path (OnRange plan) update held.0)
     go (ReadBytes offset count) (inr held) range = absurd (not-read op is.path offset count update held.0)
     go (WriteBytes offset bytes) (inr held) range =
@@ -265,7 +265,7 @@ pub both-conflict : (layout : Layout) (a b : Lock) (key : Key) → HasBlock layo
 both-conflict layout a b key on_a on_b exclusive = ((on_a.0 ∙ sym on_b.0, (key.block * block_bytes_of layout, on_a.1, on_b.1)), inl exclusive)
 
 -- So no other actor has a lock on a block of which an update's publish is accepted.
-pub barred : (v : Volume) (ops : Actor → List Operation) (run : List Event) (w next : World) (by : Actor) → IsActor by → AreApart w → (g : IsGoing v ops run w by (at_work (w.agendas by)) next)
+pub barred : (v : Volume) (ops : Actor → List Operation) (run : List Event) (w next : World) (by : Actor) → IsActor by → AreLocksApart w → (g : IsGoing v ops run w by (at_work (w.agendas by)) next)
     → (b : Actor) (key : Key) (stamp mask : ℕ) (ys : List Event) → g.move.xs ≡ e.Publish b key stamp mask None ∷ ys → IsUpdate (in_hand (ops by) (of_actor by run))
     → (a : Actor) → IsActor a → same_actor a by ≡ false → (lock : Lock) → (w.agendas a).lock ≡ Some lock → ¬ HasBlock v.layout lock key
 barred v ops run w next by ok apart g b key stamp mask ys xs_is update a ok_a other lock at on =

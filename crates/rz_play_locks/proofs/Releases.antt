@@ -26,7 +26,7 @@ use Rattle.rz_play.specs.Turns.{IsTurn, counted}
 use Rattle.rz_script.specs.Lines.{IsActor}
 use Rattle.rz_play_laws.specs.Fine.{IsFine}
 use Rattle.rz_play_laws.proofs.Frames.{same_actor-true}
-use Rattle.rz_play_locks.specs.Holding.{IsHolding, IsKeeping, IsReleased}
+use Rattle.rz_play_locks.specs.Holding.{IsHolding, IsKeeping, IsLockKept}
 use Rattle.rz_play_locks.proofs.Moves.{IsLockAfter}
 use Rattle.rz_play_locks.proofs.Barring.{lock-at_work}
 use Rattle.rz_play_locks.proofs.Kept.{IsGoing, going}
@@ -77,14 +77,14 @@ module _ (layout : Layout) (op : Operation) (lock : Option Lock) (path : List �
   holds-none Over holds is = absurd holds
 
 pub released : (v : Volume) (old : List Event) (ops more : Actor → List Operation) (w next : World) (fine : IsFine v old w) → IsFine v old next → IsKeeping v.layout ops more fine.run w → (by : Actor) → IsActor by → IsTurn v by w next
-    → (a : Actor) (lock : Lock) → (w.agendas a).lock ≡ Some lock → IsReleased w next a lock
+    → (a : Actor) (lock : Lock) → (w.agendas a).lock ≡ Some lock → IsLockKept w next a lock
 released v old ops more w next fine fine_next keeping by ok turn a lock held = elim (going v old ops more by ok w next fine fine_next keeping turn) [
   | inl same ↦ inl (ap (λ (z : World). (z.agendas a).lock) same ∙ held)
   | inr g ↦ agenda g (same_actor a by) refl
 ]
   where
     at-ask : (g : IsGoing v ops fine.run w by (at_work (w.agendas by)) next) → (at_work (w.agendas by)).lock ≡ Some lock → (z : Ask) → ask_of v.layout (at_work (w.agendas by)).work ≡ z
-        → IsStep by (at_work (w.agendas by)).number z g.move.t g.move.xs → IsLockAfter (counted w) by (at_work (w.agendas by)) z g.move.t (next.agendas by).lock → IsReleased w next by lock
+        → IsStep by (at_work (w.agendas by)).number z g.move.t g.move.xs → IsLockAfter (counted w) by (at_work (w.agendas by)) z g.move.t (next.agendas by).lock → IsLockKept w next by lock
     at-ask g mine (AskExport c) asks step is = inl (is ∙ mine)
     at-ask g mine (AskNode n question) asks step is = inl (is ∙ mine)
     at-ask g mine Rest asks step is = inl (is ∙ mine)
@@ -96,9 +96,9 @@ released v old ops more w next fine fine_next keeping by ok turn a lock held = e
     at-ask g mine (Say (SayGave key part end)) asks step is = inl (is.1 ∙ mine)
     at-ask g mine (Say (SayLeft key why)) asks step is = inl (is.1 ∙ mine)
 
-    agenda : IsGoing v ops fine.run w by (at_work (w.agendas by)) next → (b : Bool) → same_actor a by ≡ b → IsReleased w next a lock
+    agenda : IsGoing v ops fine.run w by (at_work (w.agendas by)) next → (b : Bool) → same_actor a by ≡ b → IsLockKept w next a lock
     agenda g true is =
         let same : a ≡ by = same_actor-true a by is in
-        subst (λ z. IsReleased w next z lock) (sym same)
+        subst (λ z. IsLockKept w next z lock) (sym same)
         (at-ask g (lock-at_work (w.agendas by) ∙ subst (λ z. (w.agendas z).lock ≡ Some lock) same held) (ask_of v.layout (at_work (w.agendas by)).work) refl g.move.step g.move.lock_is)
     agenda g false is = inl (ap (λ (z : Agenda). z.lock) (g.move.others a is) ∙ held)

@@ -28,21 +28,21 @@ use Rattle.rz_operation_model.specs.Ranges.{Range}
 use Rattle.rz_operation_model.specs.Work.{Work, Plan, OnBlock, OnRange, RangePlan, PutBlock, WriteBytes, ReadBytes, Course, Alone, Within, Calling, Dropping, Opening, Locking, Writing, Reading, Rebuilding, Ending, Over}
 use Rattle.rz_operation_model.specs.Ask.{Ask, AskExport, AskNode, AskLock, Say, Rest, ask_of, first_byte, whole_bytes}
 use Rattle.rz_operation_model.specs.Steps.{Told, begun, told}
-use Rattle.rz_play.specs.World.{World, Agenda, world_after, with_agenda, take_up, at_work}
+use Rattle.rz_play.specs.World.{World, Agenda, world_after, with_agenda, begin_next, at_work}
 use Rattle.rz_locks.specs.declared.conflict.Lock.{Lock}
 use Rattle.rz_locks.specs.Conflicts.{HasByte}
 use Rattle.rz_play.specs.Lines.{with_operation, with_miss}
 use Rattle.rz_play.specs.Turns.{IsTurn, counted, kind_of}
 use Rattle.rz_play_laws.proofs.Scripts.{seated}
 use Rattle.rz_play_laws.proofs.Turning.{in-runs}
-use Rattle.rz_play_laws.specs.Own.{IsOwn, IsWriteStage}
+use Rattle.rz_play_laws.specs.Own.{IsOwnOf, IsWriteStage}
 use Rattle.rz_script.specs.Lines.{IsActor}
 use Rattle.rz_play_laws.specs.Fine.{IsFine}
 use Rattle.rz_play_laws.proofs.Frames.{AreBy, of_actor-other, same_actor-true}
 use Rattle.rz_play_locks.specs.Operations.{ended, in_hand, IsUpdate, IsGuarded}
 use Rattle.rz_play_locks.specs.Promises.{published_text, IsUpdated, NoneLost}
-use Rattle.rz_play_locks.specs.Holding.{HasBlock, OfPlan, IsHeld, IsRange, InCourse, IsAlone, IsHolding, IsKeeping}
-use Rattle.rz_play_locks.specs.Texts.{IsLocking, IsNewest, IsWritten, IsText, IsSafe}
+use Rattle.rz_play_locks.specs.Holding.{HasBlock, OfPlan, IsPlanLocked, IsRange, InCourse, IsAlone, IsHolding, IsKeeping}
+use Rattle.rz_play_locks.specs.Texts.{IsLocking, ReadsPublished, IsUpdateWritten, IsText, IsSafe}
 use Rattle.rz_play_locks.proofs.Moves.{IsLockAfter}
 use Rattle.rz_play_locks.proofs.Holds.{guarded-back, guarded-update}
 use Rattle.rz_play_locks.proofs.Kept.{IsGoing, runs-on, going, hand-of, keeping-turn}
@@ -78,14 +78,14 @@ range-on layout op lock r key locking is = go is.plan is.held is.range
       );
     }
 
-    go : (plan : RangePlan) → IsHeld layout op lock is.path plan r.info.fid → OfPlan plan r → IsOn layout lock key
+    go : (plan : RangePlan) → IsPlanLocked layout op lock is.path plan r.info.fid → OfPlan plan r → IsOn layout lock key
     go plan (inl held) range = absurd (never-opened op is.path (OnRange plan) locking held.0)
     go (WriteBytes offset bytes) (inr held) range = on offset (length bytes) true range.0 (let left = is.left in let size = range.1 in omega (arith, left, size)) held.1
     go (ReadBytes offset count) (inr held) range = on offset count false range.0 (let left = is.left in let size = range.1 in omega (arith, left, size)) held.1
 
 -- What others do leaves the text.
 
-newest-frame : (h g : List Event) (key : Key) → accepted (of_word Export g) key ≡ accepted (of_word Export h) key → (stage : ReadStage) → IsNewest h key stage → IsNewest g key stage
+newest-frame : (h g : List Event) (key : Key) → accepted (of_word Export g) key ≡ accepted (of_word Export h) key → (stage : ReadStage) → ReadsPublished h key stage → ReadsPublished g key stage
 newest-frame h g key same reading.Looking is = tt
 newest-frame h g key same (reading.Fetching t) is = (is.0, same ∙ is.1)
 newest-frame h g key same (reading.Ended (mark.Found s size)) is = (is.0, same ∙ is.1)
@@ -94,7 +94,7 @@ newest-frame h g key same (reading.Ended (mark.Moved was now)) is = is
 newest-frame h g key same (reading.Ended (_)) is = tt
 
 written-frame : (layout : Layout) (h g : List Event) (m : Option Operation) (key : Key) (text : List ℕ) → published_text g key ≡ published_text h key → (stage : WriteStage)
-    → IsWritten layout h m key text stage → IsWritten layout g m key text stage
+    → IsUpdateWritten layout h m key text stage → IsUpdateWritten layout g m key text stage
 written-frame layout h g m key text same writing.Beginning is = subst (λ (z : List ℕ). IsUpdated layout m key.block z text) (sym same) is
 written-frame layout h g m key text same (writing.Sending t) is = subst (λ (z : List ℕ). IsUpdated layout m key.block z text) (sym same) is
 written-frame layout h g m key text same (writing.Ended end) is = tt
@@ -145,7 +145,7 @@ text-at_work layout ops run h m s is = up s.work s.todo refl
     first (operation.Update p o d) = tt
     first (operation.View p o c) = tt
 
-    up : (work : Work) (todo : List Operation) → s.work ≡ work → IsText layout ops run h m (take_up s work todo).work
+    up : (work : Work) (todo : List Operation) → s.work ≡ work → IsText layout ops run h m (begin_next s work todo).work
     up Over (op ∷ rest) at = first op
     up Over [] at = is
     up (Calling c) todo at = is
@@ -166,7 +166,7 @@ said-of v ops run w op by s Rest t lock is = tt
 
 -- an accepted publish is of the text that was published, with the update's bytes in place
 published-updated : (v : Volume) (ops : Actor → List Operation) (run h o mine : List Event) (by : Actor) (op : Operation) (lock : Option Lock) (work : Work) (key : Key) (stamp : ℕ) → IsSendingOf work key stamp
-    → IsHolding v.layout op lock work → IsText v.layout ops run h (Some op) work → IsOwn v (facts h) o mine by work → IsUpdate (Some op) → IsGuarded ops key run
+    → IsHolding v.layout op lock work → IsText v.layout ops run h (Some op) work → IsOwnOf v (facts h) o mine by work → IsUpdate (Some op) → IsGuarded ops key run
     → IsUpdated v.layout (Some op) key.block (published_text h key) (text_in ((facts h).wrote stamp))
 published-updated v ops run h o mine by op lock work key stamp k holds text own update guarded =
     subst (λ (z : Key). IsUpdated v.layout (Some op) z.block (published_text h z) (text_in ((facts h).wrote stamp))) k.key_is
@@ -176,8 +176,8 @@ published-updated v ops run h o mine by op lock work key stamp k holds text own 
     is : IsHolding v.layout op lock (Writing k.course k.text k.state)
     is = subst (IsHolding v.layout op lock) k.work_is holds
 
-    own_is : IsOwn v (facts h) o mine by (Writing k.course k.text k.state)
-    own_is = subst (IsOwn v (facts h) o mine by) k.work_is own
+    own_is : IsOwnOf v (facts h) o mine by (Writing k.course k.text k.state)
+    own_is = subst (IsOwnOf v (facts h) o mine by) k.work_is own
 
     sent : IsWriteStage v (facts h) o by k.state.key k.state.places k.text (writing.Sending k.sent)
     sent = subst (IsWriteStage v (facts h) o by k.state.key k.state.places k.text) k.stage_is own_is.1.stage
@@ -192,7 +192,7 @@ published-updated v ops run h o mine by op lock work key stamp k holds text own 
         → IsUpdated v.layout (Some op) k.state.key.block (published_text h k.state.key) k.text
     by-course Alone in_course put text = absurd (never-opened op put.0 (OnBlock (PutBlock put.1 put.2)) (update-locks (Some op) update) put.3)
     by-course (Within r) in_course put text =
-        subst (IsWritten v.layout h (Some op) k.state.key k.text) k.stage_is (text update here)
+        subst (IsUpdateWritten v.layout h (Some op) k.state.key k.text) k.stage_is (text update here)
 
 -- After a turn.
 pub safe-turn : (v : Volume) (old : List Event) (ops more : Actor → List Operation) (by : Actor) → IsActor by → (w next : World) (fine : IsFine v old w) (fine_next : IsFine v old next)

@@ -58,9 +58,9 @@ use Rattle.rz_play_laws.proofs.Steps.{export-step, node-step, lock-step}
 use Rattle.rz_play_laws.proofs.Events.{node-event}
 use Rattle.rz_play_laws.proofs.Blocks.{block-some}
 use Rattle.rz_play_locks.specs.Operations.{IsGuarded}
-use Rattle.rz_play_locks.specs.Promises.{published_text, text_of, last_open, key_at, file_bytes, AllGuarded, IsWhole, IsViewedAt}
-use Rattle.rz_play_locks.specs.Holding.{OfPlan, IsTaking, IsToGive, IsHeld, IsRange, IsHolding}
-use Rattle.rz_play_locks.specs.Texts.{IsNewest, IsText}
+use Rattle.rz_play_locks.specs.Promises.{published_text, text_of, last_open, key_at, file_bytes, AllGuarded, IsViewWhole, IsViewedAt}
+use Rattle.rz_play_locks.specs.Holding.{OfPlan, IsTaking, IsToGive, IsPlanLocked, IsRange, IsHolding}
+use Rattle.rz_play_locks.specs.Texts.{ReadsPublished, IsText}
 use Rattle.rz_play_locks.specs.Views.{IsSoFar, IsSeenAt}
 use Rattle.rz_play_locks.proofs.Holds.{guarded-back}
 use Rattle.rz_play_locks.proofs.Bytes.{more-bytes}
@@ -105,7 +105,7 @@ pub all-back : (layout : Layout) (ops : Actor → List Operation) (xs run : List
 all-back layout ops xs run info offset size all i low = guarded-back ops (key_at info ((offset + i) / block_bytes_of layout)) xs run (all i low)
 
 -- an answer of which nothing is promised
-pub viewed-other : (layout : Layout) (ops : Actor → List Operation) (run : List Event) (offset count : ℕ) (answer : Answer) → ((info : FileInfo) (g : List Event) (size : ℕ) → IsWhole layout info g offset size answer)
+pub viewed-other : (layout : Layout) (ops : Actor → List Operation) (run : List Event) (offset count : ℕ) (answer : Answer) → ((info : FileInfo) (g : List Event) (size : ℕ) → IsViewWhole layout info g offset size answer)
     → (opened : Option (FileInfo × List Event)) → IsViewedAt layout ops run offset count opened answer
 viewed-other layout ops run offset count answer is None = tt
 viewed-other layout ops run offset count answer is (Some opened) = λ all. is opened.0 opened.1 (min count (opened.0.size - offset))
@@ -135,7 +135,7 @@ module _ (v : Volume) (ops : Actor → List Operation) (old run h : List Event) 
   abbrev B : ℕ
   B = block_bytes_of v.layout
 
-  other : (xs : List Event) (answer : Answer) → ((info : FileInfo) (g : List Event) (size : ℕ) → IsWhole v.layout info g offset size answer) → V xs (Ending answer)
+  other : (xs : List Event) (answer : Answer) → ((info : FileInfo) (g : List Event) (size : ℕ) → IsViewWhole v.layout info g offset size answer) → V xs (Ending answer)
   other xs answer is = viewed-other v.layout ops (xs ++ run) offset count answer is (last_open by old (xs ++ run))
 
   still-so-far : (xs : List Event) → IsStill by old xs run → (r : Range) → IsSoFar v.layout ops old run h by offset count r → IsSoFar v.layout ops old (xs ++ run) (xs ++ h) by offset count r
@@ -194,7 +194,7 @@ module _ (v : Volume) (ops : Actor → List Operation) (old run h : List Event) 
 
   -- how its read ended
   part-seen : (xs : List Event) → IsStill by old xs run → (lock : Option Lock) (r : Range) (key : Key) → IsRange v.layout op lock r key → r.offset ≡ offset → IsSoFar v.layout ops old run h by offset count r
-      → (m : ReadMark) → (IsGuarded ops key run → IsNewest h key (reading.Ended m)) → V xs (in_range (after_part v.layout r (found_text (facts h) m) m))
+      → (m : ReadMark) → (IsGuarded ops key run → ReadsPublished h key (reading.Ended m)) → V xs (in_range (after_part v.layout r (found_text (facts h) m) m))
   part-seen xs still lock r key range at is (mark.Found s size) newest =
       passed-seen xs still r is at range.left (found_text (facts h) (mark.Found s size)) (λ guarded.
       (let n = newest (subst (λ (k : Key). IsGuarded ops k run) (sym range.key_is) guarded) in
@@ -323,14 +323,14 @@ module _ (v : Volume) (ops : Actor → List Operation) (old run h : List Event) 
         both (Taking bytes) taking give = give
         both (Giving bytes) taking give = taking
 
-        go : IsHeld v.layout op lock is.path is.plan r.info.fid → ⊥
+        go : IsPlanLocked v.layout op lock is.path is.plan r.info.fid → ⊥
         go (inl held) = (let k = held.0 in cc)
         go (inr held) = both r.aim (subst (λ z. OfPlan z r) (plan-of is.path is.plan held.0) is.range).2 give
 
     offset-of : (r : Range) (key : Key) → IsRange v.layout op lock r key → r.offset ≡ offset
     offset-of r key is = go is.held
       where
-        go : IsHeld v.layout op lock is.path is.plan r.info.fid → r.offset ≡ offset
+        go : IsPlanLocked v.layout op lock is.path is.plan r.info.fid → r.offset ≡ offset
         go (inl held) = absurd (let k = held.0 in cc)
         go (inr held) = (subst (λ z. OfPlan z r) (plan-of is.path is.plan held.0) is.range).0
 

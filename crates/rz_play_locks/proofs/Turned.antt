@@ -43,7 +43,7 @@ use Rattle.rz_operation_model.specs.Turns.{IsStep, IsExportStep, IsNodeStep, sai
 use Rattle.rz_play.specs.World.{World, Agenda}
 use Rattle.rz_play.specs.Turns.{kind_of}
 use Rattle.rz_locks.specs.declared.conflict.Lock.{Lock}
-use Rattle.rz_play_laws.specs.Own.{IsOwn, IsOfActor}
+use Rattle.rz_play_laws.specs.Own.{IsOwnOf, IsOfActor}
 use Rattle.rz_play_laws.proofs.Steps.{export-step, node-step, say-step}
 use Rattle.rz_play_laws.proofs.Events.{export-event, node-event}
 use Rattle.rz_play_locks.specs.Operations.{in_hand, ended}
@@ -288,7 +288,7 @@ module _ (v : Volume) (ops : Actor → List Operation) (h : List Event) (by : Ac
         go true step lk = export-asks n (Copying t0 l base (record { layout = layout; key = l.key; places = l.info.places; stage = reading.Fetching ft })) (call.Recheck l.key) (later-of n (Copying t0 l base (record { layout = layout; key = l.key; places = l.info.places; stage = reading.Fetching ft }))) step lk between
         go false step lk = node-asks n (Copying t0 l base (record { layout = layout; key = l.key; places = l.info.places; stage = reading.Fetching ft })) (slice_index l.info.places (next_read ft)) (ask.Fetch l.key (next_read ft) ft.stamp) tt (later-of n (Copying t0 l base (record { layout = layout; key = l.key; places = l.info.places; stage = reading.Fetching ft }))) step lk between
 
-    rebuilding-turn : (n : ℕ) (state : RebuildState) → IsOwn v f all run by (Rebuilding n state) → Turn (Rebuilding n state)
+    rebuilding-turn : (n : ℕ) (state : RebuildState) → IsOwnOf v f all run by (Rebuilding n state) → Turn (Rebuilding n state)
     rebuilding-turn n Probing own step lk between = node-asks n Probing n ask.Probe tt (later-of n Probing) step lk between
     rebuilding-turn n (Enrolling loss) own step lk between = export-asks n (Enrolling loss) (call.Enroll n loss) (later-of n (Enrolling loss)) step lk between
     rebuilding-turn n (Replacing loss fence) own step lk between = node-asks n (Replacing loss fence) n (ask.Replace loss fence) tt (later-of n (Replacing loss fence)) step lk between
@@ -300,7 +300,7 @@ module _ (v : Volume) (ops : Actor → List Operation) (h : List Event) (by : Ac
         by-say now (SayLeft key why) (told v.layout (Rebuilding n (Leaving t0 key why)))
         (λ text between. finish (e.Left by key why ∷ []) now (told v.layout (Rebuilding n (Leaving t0 key why)) (Noted text)) (one-quiet o (e.Left by key why) refl) tt between) t xs step between
 
-    pub hand-turn : (work : Work) → IsOwn v f all run by work → IsHolding v.layout op s.lock work → Turn work
+    pub hand-turn : (work : Work) → IsOwnOf v f all run by work → IsHolding v.layout op s.lock work → Turn work
     hand-turn (Calling c) own holds step lk between = same (told v.layout (Calling c) t) lk (by-export s.lock (call.Tree c) (told v.layout (Calling c)) (λ r. calling-later v.layout op s.lock c r) t xs step between)
     hand-turn (Dropping fid n places) own holds step lk between =
         same (told v.layout (Dropping fid n places) t) lk (by-node s.lock n (ask.Drop fid) (told v.layout (Dropping fid n places)) tt (λ z. dropping-later v.layout op s.lock fid n places z) t xs step between)

@@ -46,7 +46,7 @@ use Rattle.rz_operation_model.specs.Work.{Work, OnRange, RangePlan, WriteBytes, 
 use Rattle.rz_operation_model.specs.Ask.{Ask, AskExport, AskNode, AskLock, Say, Rest, Saying, SayGot, SayGave, SayLeft, SayDone, ask_of, is_part, read_asks, rebuild_asks, write_asks, gave, first_byte, whole_bytes}
 use Rattle.rz_operation_model.specs.Steps.{Told, begun, told}
 use Rattle.rz_operation_model.specs.Turns.{IsStep, said_event}
-use Rattle.rz_play.specs.World.{World, Agenda, world_after, with_agenda, take_up, at_work}
+use Rattle.rz_play.specs.World.{World, Agenda, world_after, with_agenda, begin_next, at_work}
 use Rattle.rz_locks.specs.declared.conflict.Lock.{Lock}
 use Rattle.rz_locks.specs.declared.conflict.LockKind.TheVariants.{Shared}
 use Rattle.rz_script.specs.Lines.{IsActor}
@@ -63,8 +63,8 @@ use Rattle.rz_play_laws.proofs.Frames.{AreBy, of_actor-other, same_actor-true}
 use Rattle.rz_play_laws.proofs.Steps.{export-step, node-step, lock-step, say-step}
 use Rattle.rz_play_laws.proofs.Events.{export-event, node-event}
 use Rattle.rz_play_locks.specs.Operations.{given, ended, in_hand, IsUpdate, IsGuarded}
-use Rattle.rz_play_locks.specs.Promises.{published_text, text_of, newest_text, last_open, key_at, IsWhole, IsViewedAt, IsViewed, NoneLost, AreWhole}
-use Rattle.rz_play_locks.specs.Holding.{AreApart, HasBlock, lock_for, OfPlan, IsHeld, IsRange, IsHolding, IsKeeping}
+use Rattle.rz_play_locks.specs.Promises.{published_text, text_of, newest_text, last_open, key_at, IsViewWhole, IsViewedAt, IsViewed, NoneLost, AreWhole}
+use Rattle.rz_play_locks.specs.Holding.{AreLocksApart, HasBlock, lock_for, OfPlan, IsPlanLocked, IsRange, IsHolding, IsKeeping}
 use Rattle.rz_play_locks.specs.Texts.{IsText, IsSafe}
 use Rattle.rz_play_locks.specs.Views.{IsSeenAt, IsSeeing}
 use Rattle.rz_play_locks.specs.Kept.{IsKeptAfter}
@@ -81,7 +81,7 @@ use Rattle.rz_play_locks.proofs.Seen.{all-back, viewed-other, so-far-frame, seen
 -- An operation says its end where it has come to it.
 module _ (layout : Layout) (offset : ℕ) (a : Answer) where
   abbrev IsOther : Type 0
-  IsOther = (info : FileInfo) (g : List Event) (size : ℕ) → IsWhole layout info g offset size a
+  IsOther = (info : FileInfo) (g : List Event) (size : ℕ) → IsViewWhole layout info g offset size a
 
   read-no : (part : Bool) (k : Key) (end : Option ReadMark) (z : ReaderAsk) → read_asks part k end z ≡ Say (SayDone a) → ⊥
   read-no part k end reads.Look is = cc
@@ -173,7 +173,7 @@ view-on layout path offset count lock r key is i low = go is.plan is.held is.ran
     plan-of : (plan : RangePlan) → begun (operation.View path offset count) ≡ Locking is.path plan → plan ≡ ReadBytes offset count
     plan-of plan at = cc
 
-    go : (plan : RangePlan) → IsHeld layout (operation.View path offset count) lock is.path plan r.info.fid → OfPlan plan r → IsOn layout lock (key_at r.info ((offset + i) / block_bytes_of layout))
+    go : (plan : RangePlan) → IsPlanLocked layout (operation.View path offset count) lock is.path plan r.info.fid → OfPlan plan r → IsOn layout lock (key_at r.info ((offset + i) / block_bytes_of layout))
     go plan (inl held) range = absurd (never-opened (operation.View path offset count) is.path (OnRange plan) tt held.0)
     go plan (inr held) range =
         let plan_is : plan ≡ ReadBytes offset count = plan-of plan held.0 in
@@ -234,7 +234,7 @@ seen-at_work layout ops old run h a offset count s is = up s.work s.todo
     first (operation.Update p o d) = tt
     first (operation.View p o c) = tt
 
-    up : (work : Work) (todo : List Operation) → IsSeenAt layout ops old run h a offset count (take_up s work todo).work
+    up : (work : Work) (todo : List Operation) → IsSeenAt layout ops old run h a offset count (begin_next s work todo).work
     up Over (op ∷ rest) = first op
     up Over [] = is
     up (Calling c) todo = is
@@ -298,7 +298,7 @@ seeing-turn v old ops more by ok w next fine fine_next see turn = elim (going v 
     known path offset count at = seen-at_work v.layout ops old run w.log by offset count (w.agendas by) (see.seen by ok path offset count at)
 
     said : (path : List ℕ) (offset count : ℕ) (answer : Answer) → in_hand (ops by) (of_actor by run) ≡ Some (operation.View path offset count)
-        → ((at_work (w.agendas by)).work ≡ Ending answer) ⊎ ((info : FileInfo) (g : List Event) (size : ℕ) → IsWhole v.layout info g offset size answer)
+        → ((at_work (w.agendas by)).work ≡ Ending answer) ⊎ ((info : FileInfo) (g : List Event) (size : ℕ) → IsViewWhole v.layout info g offset size answer)
         → IsViewedAt v.layout ops run offset count (last_open by old run) answer
     said path offset count answer at (inl is) = subst (IsSeenAt v.layout ops old run w.log by offset count) is (known path offset count at)
     said path offset count answer at (inr is) = viewed-other v.layout ops run offset count answer is (last_open by old run)
@@ -450,7 +450,7 @@ module _ (v : Volume) (tells : IsTelling v) (lines : List Line) (script : IsScri
   whole-run : kept.run ≡ h
   whole-run = sym (append-nil kept.run) ∙ sym kept.log_is
 
-  pub locks-apart : AreApart p.last
+  pub locks-apart : AreLocksApart p.last
   locks-apart = kept.apart
 
   pub locks-held : (more : Actor → List Operation) × IsKeeping v.layout (λ a. given a lines) more h p.last

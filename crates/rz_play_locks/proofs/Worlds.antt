@@ -14,14 +14,14 @@ use Rattle.rz_play.specs.Lines.{with_operation, with_miss}
 use Rattle.rz_play_laws.proofs.Scripts.{seated}
 use Rattle.rz_script.specs.Lines.{IsActor}
 use Rattle.rz_play_laws.proofs.Frames.{AreBy, of_actor-other, same_actor-true, same_actor-refl}
-use Rattle.rz_play_locks.specs.Holding.{IsAgenda, IsKeeping}
+use Rattle.rz_play_locks.specs.Holding.{IsAgendaOf, IsKeeping}
 use Rattle.rz_play_locks.proofs.Kept.{agenda-frame}
 use Rattle.rz_play_locks.proofs.Carried.{IsAdmins}
 
 module _ (v : Volume) (ops : Actor → List Operation) where
   -- a line that changes one agenda, but neither its lock nor what it has in hand
   agenda-line : (more now : Actor → List Operation) (by : Actor) (t : Agenda) (run : List Event) (w : World) → t.lock ≡ (w.agendas by).lock
-      → (IsActor by → IsAgenda v.layout ops run by (now by) (w.agendas by) → IsAgenda v.layout ops run by (more by) t)
+      → (IsActor by → IsAgendaOf v.layout ops run by (now by) (w.agendas by) → IsAgendaOf v.layout ops run by (more by) t)
       → ((a : Actor) → same_actor a by ≡ false → now a ≡ more a)
       → IsKeeping v.layout ops now run w → IsKeeping v.layout ops more run (with_agenda w by t)
   agenda-line more now by t run w same agenda others k = record {
@@ -33,11 +33,11 @@ module _ (v : Volume) (ops : Actor → List Operation) where
       lock-of a true is = same ∙ ap (λ z. (w.agendas z).lock) (sym (same_actor-true a by is))
       lock-of a false is = refl
 
-      agenda-of : (a : Actor) → IsActor a → (b : Bool) → same_actor a by ≡ b → IsAgenda v.layout ops run a (more a) (cond b t (w.agendas a))
+      agenda-of : (a : Actor) → IsActor a → (b : Bool) → same_actor a by ≡ b → IsAgendaOf v.layout ops run a (more a) (cond b t (w.agendas a))
       agenda-of a ok true is =
           let at : a ≡ by = same_actor-true a by is in
-          subst (λ z. IsAgenda v.layout ops run z (more z) t) (sym at) (agenda (subst IsActor at ok) (k.agendas by (subst IsActor at ok)))
-      agenda-of a ok false is = subst (λ (z : List Operation). IsAgenda v.layout ops run a z (w.agendas a)) (others a is) (k.agendas a ok)
+          subst (λ z. IsAgendaOf v.layout ops run z (more z) t) (sym at) (agenda (subst IsActor at ok) (k.agendas by (subst IsActor at ok)))
+      agenda-of a ok false is = subst (λ (z : List Operation). IsAgendaOf v.layout ops run a z (w.agendas a)) (others a is) (k.agendas a ok)
 
   pub keeping-gives : (more : Actor → List Operation) (by : Actor) (op : Operation) (run : List Event) (w : World) → IsKeeping v.layout ops (λ a. cond (same_actor a by) (op ∷ more a) (more a)) run w
       → IsKeeping v.layout ops more run (with_agenda w by (with_operation (w.agendas by) op))
@@ -67,7 +67,7 @@ module _ (v : Volume) (ops : Actor → List Operation) where
   keeping-admins more run w next xs all agendas_are k = record {
     apart = λ a b x y ok_a ok_b other at_a at_b. k.apart a b x y ok_a ok_b other (ap (λ (z : Actor → Agenda). (z a).lock) (sym agendas_are) ∙ at_a) (ap (λ (z : Actor → Agenda). (z b).lock) (sym agendas_are) ∙ at_b);
     agendas = λ a ok.
-        subst (λ (z : Agenda). IsAgenda v.layout ops (xs ++ run) a (more a) z) (sym (ap (λ (z : Actor → Agenda). z a) agendas_are))
+        subst (λ (z : Agenda). IsAgendaOf v.layout ops (xs ++ run) a (more a) z) (sym (ap (λ (z : Actor → Agenda). z a) agendas_are))
         (agenda-frame v.layout ops run xs a (more a) (w.agendas a) (of_actor-other a Admin xs run (seated a ok) (admins-by xs all)) (k.agendas a ok));
   }
 

@@ -22,8 +22,8 @@ use Rattle.rz_script.specs.Lines.{IsActor}
 use Rattle.rz_play_locks.specs.Operations.{ended, in_hand}
 
 -- No two locks that are held conflict.
-abbrev pub AreApart : World → Type 0
-AreApart w = (a b : Actor) (x y : Lock) → IsActor a → IsActor b → same_actor a b ≡ false → (w.agendas a).lock ≡ Some x → (w.agendas b).lock ≡ Some y → ¬ Conflict x y
+abbrev pub AreLocksApart : World → Type 0
+AreLocksApart w = (a b : Actor) (x y : Lock) → IsActor a → IsActor b → same_actor a b ≡ false → (w.agendas a).lock ≡ Some x → (w.agendas b).lock ≡ Some y → ¬ Conflict x y
 
 -- the lock is on the block
 abbrev pub HasBlock : Layout → Lock → Key → Type 0
@@ -51,8 +51,8 @@ OfPlan (WriteBytes offset bytes) r = (r.offset ≡ offset) × (r.size ≡ length
 OfPlan (ReadBytes offset count) r = (r.offset ≡ offset) × (r.size ≤ count) × IsTaking r.aim
 
 -- The operation opened its file with this plan: without a lock, and holds none, or with one, and holds it.
-abbrev pub IsHeld : Layout → Operation → Option Lock → List ℕ → RangePlan → ℕ → Type 0
-IsHeld layout op lock path plan fid =
+abbrev pub IsPlanLocked : Layout → Operation → Option Lock → List ℕ → RangePlan → ℕ → Type 0
+IsPlanLocked layout op lock path plan fid =
     ((begun op ≡ Opening path (OnRange plan)) × (lock ≡ None)) ⊎ ((begun op ≡ Locking path plan) × (lock ≡ lock_for layout path plan fid))
 
 -- the range is at its beginning, or at that of a block
@@ -63,7 +63,7 @@ IsAligned layout r = (r.done ≡ 0) ⊎ (start_in layout r ≡ 0)
 pub record IsRange (layout : Layout) (op : Operation) (lock : Option Lock) (r : Range) (key : Key) : Type 0 where
   pub path : List ℕ
   pub plan : RangePlan
-  pub held : IsHeld layout op lock path plan r.info.fid
+  pub held : IsPlanLocked layout op lock path plan r.info.fid
   pub range : OfPlan plan r
   pub left : r.done < r.size
   pub aligned : IsAligned layout r
@@ -105,15 +105,15 @@ InHand layout ops o by number lock work =
     (ended o + 1 ≡ number) × ((op : Operation) × (in_hand (ops by) o ≡ Some op) × IsHolding layout op lock work)
 
 -- An actor: what is left to do are the last ones of its operations, and what it has in hand is the one before them.
-pub record IsAgenda (layout : Layout) (ops : Actor → List Operation) (run : List Event) (by : Actor) (more : List Operation) (s : Agenda) : Type 0 where
+pub record IsAgendaOf (layout : Layout) (ops : Actor → List Operation) (run : List Event) (by : Actor) (more : List Operation) (s : Agenda) : Type 0 where
   pub rest : s.todo ++ more ≡ drop s.number (ops by)
   pub hand : InHand layout ops (of_actor by run) by s.number s.lock s.work
 
 -- Between two turns; `more` has the operations that each actor is still to be given, and `run` the events of this run.
 pub record IsKeeping (layout : Layout) (ops more : Actor → List Operation) (run : List Event) (w : World) : Type 0 where
-  pub apart : AreApart w
-  pub agendas : (by : Actor) → IsActor by → IsAgenda layout ops run by (more by) (w.agendas by)
+  pub apart : AreLocksApart w
+  pub agendas : (by : Actor) → IsActor by → IsAgendaOf layout ops run by (more by) (w.agendas by)
 
 -- After a turn the actor still holds the lock, or the turn was the `Done` of its operation.
-abbrev pub IsReleased : World → World → Actor → Lock → Type 0
-IsReleased w next a lock = ((next.agendas a).lock ≡ Some lock) ⊎ ((number : ℕ) × (answer : Answer) × (next.log ≡ e.Done a number answer ∷ w.log))
+abbrev pub IsLockKept : World → World → Actor → Lock → Type 0
+IsLockKept w next a lock = ((next.agendas a).lock ≡ Some lock) ⊎ ((number : ℕ) × (answer : Answer) × (next.log ≡ e.Done a number answer ∷ w.log))

@@ -10,7 +10,7 @@ use Rattle.rz_script.specs.declared.line.Line.{Line}
 use Rattle.rz_play.specs.World.{World}
 use Rattle.rz_play_locks.specs.Operations.{IsGuarded, given}
 use Rattle.rz_play_locks.specs.Promises.{NoneLost, AreWhole}
-use Rattle.rz_play_locks.specs.Holding.{AreApart, IsKeeping}
+use Rattle.rz_play_locks.specs.Holding.{AreLocksApart, IsKeeping}
 
 -- Of the log of a play of a new volume: no update of a guarded block is lost.
 abbrev pub NoUpdateLost : Volume → List Line → List Event → Type 0
@@ -24,7 +24,7 @@ AreViewsWhole v lines h = AreWhole v.layout (λ a. given a lines) [] h
 pub record IsKeptAfter (layout : Layout) (ops : Actor → List Operation) (old h : List Event) (last : World) : Type 0 where
   pub run : List Event
   pub log_is : h ≡ run ++ old
-  pub apart : AreApart last
+  pub apart : AreLocksApart last
   pub held : (more : Actor → List Operation) × IsKeeping layout ops more run last
   pub none_lost : (key : Key) → IsGuarded ops key run → NoneLost layout ops key old run
   pub whole_views : AreWhole layout ops old run

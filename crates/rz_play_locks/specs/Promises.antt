@@ -90,16 +90,16 @@ AllGuarded layout ops run info offset size =
     (i : ℕ) → i < size → IsGuarded ops (key_at info ((offset + i) / block_bytes_of layout)) run
 
 -- a view of so many bytes of a file, which was open after `h`, gave this answer
-abbrev pub IsWhole : Layout → FileInfo → List Event → (offset size : ℕ) → Answer → Type 0
-IsWhole layout info h offset size (answers.Read bytes) = bytes ≡ file_bytes layout (λ block. published_text h (key_at info block)) offset size
-IsWhole layout info h offset size (answers.ShortRead done (read.Moved was now)) = ⊥
-IsWhole layout info h offset size _ = Unit {0}
+abbrev pub IsViewWhole : Layout → FileInfo → List Event → (offset size : ℕ) → Answer → Type 0
+IsViewWhole layout info h offset size (answers.Read bytes) = bytes ≡ file_bytes layout (λ block. published_text h (key_at info block)) offset size
+IsViewWhole layout info h offset size (answers.ShortRead done (read.Moved was now)) = ⊥
+IsViewWhole layout info h offset size _ = Unit {0}
 
 abbrev pub IsViewedAt : Layout → (Actor → List Operation) → List Event → (offset count : ℕ) → Option (FileInfo × List Event) → Answer → Type 0
 IsViewedAt layout ops run offset count None answer = Unit {0}
 IsViewedAt layout ops run offset count (Some opened) answer =
     let size = min count (opened.0.size - offset) in
-    AllGuarded layout ops run opened.0 offset size → IsWhole layout opened.0 opened.1 offset size answer
+    AllGuarded layout ops run opened.0 offset size → IsViewWhole layout opened.0 opened.1 offset size answer
 
 abbrev pub IsViewed : Layout → (Actor → List Operation) → List Event → Option Operation → Option (FileInfo × List Event) → Answer → Type 0
 IsViewed layout ops run (Some (operation.View path offset count)) opened answer = IsViewedAt layout ops run offset count opened answer

@@ -28,28 +28,28 @@ IsLocking (Some (operation.View path offset count)) = Unit {0}
 IsLocking _ = ⊥
 
 -- the write with stamp s is the one that is published
-abbrev pub IsAccepted : List Event → Key → ℕ → Type 0
-IsAccepted h key s = (mask : ℕ) × (accepted (of_word Export h) key ≡ Some (s, mask))
+abbrev pub IsWritePublished : List Event → Key → ℕ → Type 0
+IsWritePublished h key s = (mask : ℕ) × (accepted (of_word Export h) key ≡ Some (s, mask))
 
 -- the read is of what is published now
-abbrev pub IsNewest : List Event → Key → ReadStage → Type 0
-IsNewest h key reading.Looking = Unit {0}
-IsNewest h key (reading.Fetching t) = IsAccepted h key t.stamp
-IsNewest h key (reading.Ended (mark.Found s length)) = IsAccepted h key s
-IsNewest h key (reading.Ended mark.Hole) = accepted (of_word Export h) key ≡ None
-IsNewest h key (reading.Ended (mark.Moved was now)) = ⊥
-IsNewest h key (reading.Ended _) = Unit {0}
+abbrev pub ReadsPublished : List Event → Key → ReadStage → Type 0
+ReadsPublished h key reading.Looking = Unit {0}
+ReadsPublished h key (reading.Fetching t) = IsWritePublished h key t.stamp
+ReadsPublished h key (reading.Ended (mark.Found s length)) = IsWritePublished h key s
+ReadsPublished h key (reading.Ended mark.Hole) = accepted (of_word Export h) key ≡ None
+ReadsPublished h key (reading.Ended (mark.Moved was now)) = ⊥
+ReadsPublished h key (reading.Ended _) = Unit {0}
 
 -- the text that is written is what is published now, with the update's bytes in place
-abbrev pub IsWritten : Layout → List Event → Option Operation → Key → List ℕ → WriteStage → Type 0
-IsWritten layout h m key text writing.Beginning = IsUpdated layout m key.block (published_text h key) text
-IsWritten layout h m key text (writing.Sending t) = IsUpdated layout m key.block (published_text h key) text
-IsWritten layout h m key text (writing.Ended end) = Unit {0}
+abbrev pub IsUpdateWritten : Layout → List Event → Option Operation → Key → List ℕ → WriteStage → Type 0
+IsUpdateWritten layout h m key text writing.Beginning = IsUpdated layout m key.block (published_text h key) text
+IsUpdateWritten layout h m key text (writing.Sending t) = IsUpdated layout m key.block (published_text h key) text
+IsUpdateWritten layout h m key text (writing.Ended end) = Unit {0}
 
 -- `h` is the whole log, and `run` has the events of this run
 abbrev pub IsText : Layout → (Actor → List Operation) → (run h : List Event) → Option Operation → Work → Type 0
-IsText layout ops run h m (Reading (Within r) s) = IsLocking m → IsGuarded ops s.key run → IsNewest h s.key s.stage
-IsText layout ops run h m (Writing (Within r) text s) = IsUpdate m → IsGuarded ops s.key run → IsWritten layout h m s.key text s.stage
+IsText layout ops run h m (Reading (Within r) s) = IsLocking m → IsGuarded ops s.key run → ReadsPublished h s.key s.stage
+IsText layout ops run h m (Writing (Within r) text s) = IsUpdate m → IsGuarded ops s.key run → IsUpdateWritten layout h m s.key text s.stage
 IsText layout ops run h m _ = Unit {0}
 
 -- Between two turns; `run` has the events of this run, which go on after the earlier log.

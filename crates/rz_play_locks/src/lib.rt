@@ -30,12 +30,12 @@ ghost use Rattle.rz_play_laws.specs.Fine.{IsFine, MayBegin};
 ghost use Rattle.rz_play_laws.specs.Runs.{IsScript};
 ghost use Rattle.rz_play_locks.specs.Operations.{IsUpdate, given, in_hand};
 ghost use Rattle.rz_play_locks.specs.Promises.{published_text, newest_text};
-ghost use Rattle.rz_play_locks.specs.Holding.{AreApart, HasBlock, IsKeeping, IsReleased};
+ghost use Rattle.rz_play_locks.specs.Holding.{AreLocksApart, HasBlock, IsKeeping, IsLockKept};
 ghost use Rattle.rz_play_locks.specs.Kept.{IsKeptAfter, NoUpdateLost, AreViewsWhole};
 
 /// Between two turns of a play no two locks that are held conflict.
 pub fn apart()
-    ensures { (v : Volume) (script : List ALine) → IsScript v script → (log : List AnEvent) (p : IsBegun v script log) → AreApart p.last }
+    ensures { (v : Volume) (script : List ALine) → IsScript v script → (log : List AnEvent) (p : IsBegun v script log) → AreLocksApart p.last }
 {
     rz_play_laws::facts_told();
 }
@@ -52,7 +52,7 @@ pub fn held()
 pub fn released()
     ensures { (v : Volume) (old : List AnEvent) (ops more : AnActor → List AnOperation) (w next : World)
         → (fine : IsFine v old w) → IsFine v old next → IsKeeping v.layout ops more fine.run w → (by : AnActor) → IsActor by → IsTurn v by w next
-        → (a : AnActor) (lock : Lock) → (w.agendas a).lock ≡ Some lock → IsReleased w next a lock }
+        → (a : AnActor) (lock : Lock) → (w.agendas a).lock ≡ Some lock → IsLockKept w next a lock }
 {}
 
 /// While an actor has a lock on a block, no other actor's update has a publish of it accepted.

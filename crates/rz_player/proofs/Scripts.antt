@@ -13,7 +13,7 @@ use Rattle.rz_play.specs.Played.{PlaysLinesOver, StopsLinesOver, BeginsLinesOver
 use Rattle.rz_player.specs.declared.turns.CutCause.TheVariants as cut
 use Rattle.rz_player.specs.declared.lines.PlayEnd.{PlayEnd}
 use Rattle.rz_player.specs.declared.lines.PlayEnd.TheVariants as end
-use Rattle.rz_player.specs.Ends.{ComesTo, CutsOff, IsEnded, IsEndedOver, IsLinePlayed, IsLogOf, TellsOf}
+use Rattle.rz_player.specs.Ends.{ComesToWorld, CutsOff, IsEnded, IsEndedOver, IsLinePlayed, IsLogOf, TellsOf}
 
 pub line-at : (v : Volume) (xs : List Line) (i : ℕ) (d : Line) → AreLines v xs → i < length xs → IsLine v (get_or xs i d)
 line-at v [] i d all lt = absurd (omega arith)
@@ -49,7 +49,7 @@ script-stopped v tells xs i d w mid next lost lt h stops few = record {
   log_is = refl;
 }
 
-begun-so : (tells : Bool) (v : Volume) (w last : World) (xs : List Line) (journaled : Bool) (e : PlayEnd) → CutsOff journaled e → BeginsLinesOver v xs tells w last × (last.turns ≤ most_turns) → ComesTo v xs tells e w last
+begun-so : (tells : Bool) (v : Volume) (w last : World) (xs : List Line) (journaled : Bool) (e : PlayEnd) → CutsOff journaled e → BeginsLinesOver v xs tells w last × (last.turns ≤ most_turns) → ComesToWorld v xs tells e w last
 begun-so tells v w last xs journaled end.Ended cuts h = absurd cuts
 begun-so tells v w last xs journaled end.TooManyTurns cuts h = absurd cuts
 begun-so tells v w last xs journaled end.NoMemory cuts h = h

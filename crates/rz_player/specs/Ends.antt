@@ -18,8 +18,8 @@ use Rattle.rz_player.specs.declared.lines.PlayEnd.{PlayEnd}
 use Rattle.rz_player.specs.declared.lines.PlayEnd.TheVariants as end
 
 -- what was so with what there was before the first line is so still
-abbrev pub Carries : (Before → Type 0) → (Before → Type 0) → Type 0
-Carries before after = (b : Before) → before b → after b
+abbrev pub StaysTrue : (Before → Type 0) → (Before → Type 0) → Type 0
+StaysTrue before after = (b : Before) → before b → after b
 
 -- the log and the count of lost messages are those of this world
 abbrev pub TellsOf : World → World → Type 0
@@ -87,15 +87,15 @@ EndsBy journaled why end.TooManyTurns = Unit {0}
 EndsBy journaled why e = (e ≡ why) × CutsOff journaled e
 
 -- how the play of a script came to this world
-abbrev pub ComesTo : Volume → List Line → (tells : Bool) → PlayEnd → World → World → Type 0
-ComesTo v lines tells end.Ended first last = PlaysLinesOver v lines tells first last × (last.turns ≤ most_turns)
-ComesTo v lines tells end.TooManyTurns first last = StopsLinesOver v TurnsSpent lines tells first last
-ComesTo v lines tells cut_off first last = BeginsLinesOver v lines tells first last × (last.turns ≤ most_turns)
+abbrev pub ComesToWorld : Volume → List Line → (tells : Bool) → PlayEnd → World → World → Type 0
+ComesToWorld v lines tells end.Ended first last = PlaysLinesOver v lines tells first last × (last.turns ≤ most_turns)
+ComesToWorld v lines tells end.TooManyTurns first last = StopsLinesOver v TurnsSpent lines tells first last
+ComesToWorld v lines tells cut_off first last = BeginsLinesOver v lines tells first last × (last.turns ≤ most_turns)
 
 -- The log of a script, the newest event first, by how its play ended. The link has lost at most so many messages then.
 pub record IsEndedOver (tells : Bool) (v : Volume) (first : World) (lines : List Line) (end : PlayEnd) (lost : ℕ) (h : List Event) : Type 0 where
   pub last : World
-  pub played : ComesTo v lines tells end first last
+  pub played : ComesToWorld v lines tells end first last
   pub losses : last.lost ≤ lost
   pub log_is : last.log ≡ h
 

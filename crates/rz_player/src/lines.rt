@@ -4,7 +4,7 @@ ghost use Rattle.rz_script.specs.Lines.{IsLine, AreLines};
 ghost use Rattle.rz_play.specs.Stops.{most_turns};
 ghost use Rattle.rz_player.specs.Behind.{Before, behind};
 ghost use Rattle.rz_play.specs.Played.{PlaysLinesOver};
-ghost use Rattle.rz_player.specs.Ends.{Carries, EndsBy, IsLinePlayed, IsEnded, IsEndedOver, OnStop};
+ghost use Rattle.rz_player.specs.Ends.{StaysTrue, EndsBy, IsLinePlayed, IsEnded, IsEndedOver, OnStop};
 
 use crate::rounds::{play_rounds, play_to_rest};
 use crate::stage::Stage;
@@ -36,9 +36,9 @@ fn play_line<S: Stage, L: Link>(stage: &mut S, line: &Line, link: &mut L) -> Res
     ensures ready { OnOk result (S.is_ready stage.new) }
     ensures few { OnOk result ((S.world stage.new).turns ≤ most_turns) }
     ensures lost { (S.world stage.new).lost + L.lost link.old ≤ (S.world stage.old).lost + L.lost link.new }
-    ensures held { OnOk result (Carries (S.holds stage.old) (S.holds stage.new)) }
-    ensures left { OnErr result (Carries (S.holds stage.old) (S.leaves stage.new)) }
-    ensures stopped { OnStop result (S.is_ready stage.new × Carries (S.holds stage.old) (S.holds stage.new)) }
+    ensures held { OnOk result (StaysTrue (S.holds stage.old) (S.holds stage.new)) }
+    ensures left { OnErr result (StaysTrue (S.holds stage.old) (S.leaves stage.new)) }
+    ensures stopped { OnStop result (S.is_ready stage.new × StaysTrue (S.holds stage.old) (S.holds stage.new)) }
     ensures played { (b : Before) → S.holds stage.old b → IsLinePlayed (S.volume stage.old) line.now S.tells (behind b.log (S.world stage.old)) result (behind b.log (S.world stage.new)) }
 {
     match line {
@@ -61,7 +61,7 @@ pub fn play<S: Stage, L: Link>(stage: &mut S, lines: &[Line], link: &mut L) -> P
     requires lines { AreLines (S.volume stage.old) lines.now }
     requires few { (S.world stage.old).turns ≤ most_turns }
     ensures volume { S.volume stage.new ≡ S.volume stage.old }
-    ensures left { Carries (S.holds stage.old) (S.leaves stage.new) }
+    ensures left { StaysTrue (S.holds stage.old) (S.leaves stage.new) }
     ensures lost { (S.world stage.new).lost + L.lost link.old ≤ (S.world stage.old).lost + L.lost link.new }
     ensures played { (b : Before) → S.holds stage.old b → IsTrue S.tells → IsEnded (S.volume stage.old) (behind b.log (S.world stage.old)) lines.now result ((S.world stage.old).lost + (L.lost link.new - L.lost link.old)) ((S.world stage.new).log ++ b.log) }
     ensures journal { S.journaled stage.new ≡ S.journaled stage.old }
@@ -70,11 +70,11 @@ pub fn play<S: Stage, L: Link>(stage: &mut S, lines: &[Line], link: &mut L) -> P
     ensures cut { EndsBy (S.journaled stage.old) (S.cut_off stage.new) result }
 
     // Before a turn that is one too many the stage stands between two turns.
-    ensures stopped { result ≡ PlayEnd.TooManyTurns → S.is_ready stage.new × Carries (S.holds stage.old) (S.holds stage.new) }
+    ensures stopped { result ≡ PlayEnd.TooManyTurns → S.is_ready stage.new × StaysTrue (S.holds stage.old) (S.holds stage.new) }
 
     // After the last line the stage can be played on further.
     ensures ready { result ≡ PlayEnd.Ended → S.is_ready stage.new }
-    ensures held { result ≡ PlayEnd.Ended → Carries (S.holds stage.old) (S.holds stage.new) }
+    ensures held { result ≡ PlayEnd.Ended → StaysTrue (S.holds stage.old) (S.holds stage.new) }
     ensures whole { result ≡ PlayEnd.Ended → (b : Before) → S.holds stage.old b → PlaysLinesOver (S.volume stage.old) lines.now S.tells (behind b.log (S.world stage.old)) (behind b.log (S.world stage.new)) }
 
     // Where a disk does not tell its text, only what a start or a read finds on it is not said.

@@ -6,7 +6,7 @@ ghost use Rattle.rz_script.specs.declared.line.Line.TheVariants as line;
 ghost use Rattle.rz_play.specs.World.{actors};
 ghost use Rattle.rz_play.specs.Stops.{most_turns};
 ghost use Rattle.rz_player.specs.Behind.{Before, behind};
-ghost use Rattle.rz_player.specs.Ends.{Carries, CountsTurns, IsRoundPlayed, IsLinePlayed, OnStop};
+ghost use Rattle.rz_player.specs.Ends.{StaysTrue, CountsTurns, IsRoundPlayed, IsLinePlayed, OnStop};
 
 use crate::stage::Stage;
 use crate::turns::{CutCause, take_turn};
@@ -110,9 +110,9 @@ fn take_round<S: Stage, L: Link>(
     ensures journal { S.journaled stage.new ≡ S.journaled stage.old }
     ensures ready { OnOk result (S.is_ready stage.new) }
     ensures lost { (S.world stage.new).lost + L.lost link.old ≤ (S.world stage.old).lost + L.lost link.new }
-    ensures held { OnOk result (Carries (S.holds stage.old) (S.holds stage.new)) }
-    ensures left { OnErr result (Carries (S.holds stage.old) (S.leaves stage.new)) }
-    ensures stopped { OnStop result (S.is_ready stage.new × Carries (S.holds stage.old) (S.holds stage.new)) }
+    ensures held { OnOk result (StaysTrue (S.holds stage.old) (S.holds stage.new)) }
+    ensures left { OnErr result (StaysTrue (S.holds stage.old) (S.leaves stage.new)) }
+    ensures stopped { OnStop result (S.is_ready stage.new × StaysTrue (S.holds stage.old) (S.holds stage.new)) }
     ensures counted { CountsTurns result (S.world stage.old) (S.world stage.new) }
     ensures few { OnOk result ((S.world stage.new).turns ≤ most_turns) }
     ensures played { (b : Before) → S.holds stage.old b → IsRoundPlayed (S.volume stage.old) actors.now S.tells (behind b.log (S.world stage.old)) result (behind b.log (S.world stage.new)) }
@@ -135,9 +135,9 @@ fn play_round<S: Stage, L: Link>(stage: &mut S, link: &mut L) -> Result<bool, Cu
     ensures journal { S.journaled stage.new ≡ S.journaled stage.old }
     ensures ready { OnOk result (S.is_ready stage.new) }
     ensures lost { (S.world stage.new).lost + L.lost link.old ≤ (S.world stage.old).lost + L.lost link.new }
-    ensures held { OnOk result (Carries (S.holds stage.old) (S.holds stage.new)) }
-    ensures left { OnErr result (Carries (S.holds stage.old) (S.leaves stage.new)) }
-    ensures stopped { OnStop result (S.is_ready stage.new × Carries (S.holds stage.old) (S.holds stage.new)) }
+    ensures held { OnOk result (StaysTrue (S.holds stage.old) (S.holds stage.new)) }
+    ensures left { OnErr result (StaysTrue (S.holds stage.old) (S.leaves stage.new)) }
+    ensures stopped { OnStop result (S.is_ready stage.new × StaysTrue (S.holds stage.old) (S.holds stage.new)) }
     ensures counted { CountsTurns result (S.world stage.old) (S.world stage.new) }
     ensures few { OnOk result ((S.world stage.new).turns ≤ most_turns) }
     ensures played { (b : Before) → S.holds stage.old b → IsRoundPlayed (S.volume stage.old) actors S.tells (behind b.log (S.world stage.old)) result (behind b.log (S.world stage.new)) }
@@ -157,9 +157,9 @@ pub(crate) fn play_rounds<S: Stage, L: Link>(
     ensures journal { S.journaled stage.new ≡ S.journaled stage.old }
     ensures ready { OnOk result (S.is_ready stage.new) }
     ensures lost { (S.world stage.new).lost + L.lost link.old ≤ (S.world stage.old).lost + L.lost link.new }
-    ensures held { OnOk result (Carries (S.holds stage.old) (S.holds stage.new)) }
-    ensures left { OnErr result (Carries (S.holds stage.old) (S.leaves stage.new)) }
-    ensures stopped { OnStop result (S.is_ready stage.new × Carries (S.holds stage.old) (S.holds stage.new)) }
+    ensures held { OnOk result (StaysTrue (S.holds stage.old) (S.holds stage.new)) }
+    ensures left { OnErr result (StaysTrue (S.holds stage.old) (S.leaves stage.new)) }
+    ensures stopped { OnStop result (S.is_ready stage.new × StaysTrue (S.holds stage.old) (S.holds stage.new)) }
     ensures few { OnOk result ((S.world stage.new).turns ≤ most_turns) }
     ensures played { (b : Before) → S.holds stage.old b → IsLinePlayed (S.volume stage.old) (line.Rounds count) S.tells (behind b.log (S.world stage.old)) result (behind b.log (S.world stage.new)) }
 {
@@ -179,9 +179,9 @@ pub(crate) fn play_to_rest<S: Stage, L: Link>(stage: &mut S, link: &mut L) -> Re
     ensures journal { S.journaled stage.new ≡ S.journaled stage.old }
     ensures ready { OnOk result (S.is_ready stage.new) }
     ensures lost { (S.world stage.new).lost + L.lost link.old ≤ (S.world stage.old).lost + L.lost link.new }
-    ensures held { OnOk result (Carries (S.holds stage.old) (S.holds stage.new)) }
-    ensures left { OnErr result (Carries (S.holds stage.old) (S.leaves stage.new)) }
-    ensures stopped { OnStop result (S.is_ready stage.new × Carries (S.holds stage.old) (S.holds stage.new)) }
+    ensures held { OnOk result (StaysTrue (S.holds stage.old) (S.holds stage.new)) }
+    ensures left { OnErr result (StaysTrue (S.holds stage.old) (S.leaves stage.new)) }
+    ensures stopped { OnStop result (S.is_ready stage.new × StaysTrue (S.holds stage.old) (S.holds stage.new)) }
     ensures few { OnOk result ((S.world stage.new).turns ≤ most_turns) }
     ensures played { (b : Before) → S.holds stage.old b → IsLinePlayed (S.volume stage.old) line.Rest S.tells (behind b.log (S.world stage.old)) result (behind b.log (S.world stage.new)) }
 {

@@ -7,7 +7,7 @@ ghost use Rattle.rz_play.specs.Free.{IsTurnOver};
 ghost use Rattle.rz_play.specs.Lines.{PlaysLineOver, TakesNoTurn};
 ghost use Rattle.rz_play.specs.Stops.{most_turns};
 ghost use Rattle.rz_player.specs.Behind.{Before, behind};
-ghost use Rattle.rz_player.specs.Ends.{Carries, CutsOff, TellsOf};
+ghost use Rattle.rz_player.specs.Ends.{StaysTrue, CutsOff, TellsOf};
 ghost use Rattle.rz_player.specs.declared.lines.PlayEnd.{PlayEnd as AnEnd};
 
 use crate::lines::PlayEnd;
@@ -48,7 +48,7 @@ pub trait Stage {
     /// What is so of them where a play ended, cut off or not.
     ghost leaves: { Self → Before → Type 0 };
 
-    ghost ends: { (s : Self) → Carries (holds s) (leaves s) };
+    ghost ends: { (s : Self) → StaysTrue (holds s) (leaves s) };
 
     /// How a play ends where a turn, a line or an order was not done: memory is wanting, or the journal did
     /// not keep a call.
@@ -78,8 +78,8 @@ pub trait Stage {
         ensures taken { OnOk result ((b : Before) → holds self.old b → IsTurnOver (volume self.old) by Self.tells (behind b.log (world self.old)) (behind b.log (world self.new))) }
         ensures lost { (world self.new).lost + L.lost link.old ≤ (world self.old).lost + L.lost link.new }
         ensures log { OnErr result (TellsOf (world self.old) (world self.new)) }
-        ensures held { OnOk result (Carries (holds self.old) (holds self.new)) }
-        ensures left { OnErr result (Carries (holds self.old) (leaves self.new)) };
+        ensures held { OnOk result (StaysTrue (holds self.old) (holds self.new)) }
+        ensures left { OnErr result (StaysTrue (holds self.old) (leaves self.new)) };
 
     /// A line is carried out that takes no turn: an operation or a loss is noted for an actor, or a node is
     /// given an order.
@@ -93,8 +93,8 @@ pub trait Stage {
         ensures played { OnOk result (PlaysLineOver (volume self.old) line.now Self.tells (world self.old) (world self.new)) }
         ensures lost { (world self.new).lost ≡ (world self.old).lost }
         ensures log { OnErr result ((world self.new).log ≡ (world self.old).log) }
-        ensures held { OnOk result (Carries (holds self.old) (holds self.new)) }
-        ensures left { OnErr result (Carries (holds self.old) (leaves self.new)) };
+        ensures held { OnOk result (StaysTrue (holds self.old) (holds self.new)) }
+        ensures left { OnErr result (StaysTrue (holds self.old) (leaves self.new)) };
 }
 
 /// A stage whose log can be read.

@@ -10,8 +10,8 @@ use Rattle.rz_operation_model.specs.Rebuild.{Rebuild}
 use Rattle.rz_reader.specs.Machine.{Machine as ReaderMachine}
 use Rattle.rz_rebuild.specs.declared.step.RebuildStep.{RebuildStep}
 use Rattle.rz_rebuild.specs.declared.step.RebuildStep.TheVariants as step
-use Rattle.rz_rebuild.specs.Machine.{Machine, Goes, IsAnswered, IsBlockIn, pairs_in, told_in}
-use Rattle.rz_rebuild.specs.Kinds.{IsProbed, IsEnrolled, IsReplaced, IsRefilled}
+use Rattle.rz_rebuild.specs.Machine.{Machine, IsRebuildAfter, FitsIfEnough, IsBlockIn, pairs_in, told_in}
+use Rattle.rz_rebuild.specs.Kinds.{IsProbed, IsEnrolled, IsReplaced, IsRefillDone}
 use Rattle.rz_rebuild.specs.Inside.{IsStill, block_of, machine_of, pairs_of, state_of}
 
 pairs-still : (r : ReaderState) (s : RebuildStep) (pairs had : List Pair) → IsStill s → pairs_of s pairs ≡ pairs_in (state_of r s) had
@@ -36,7 +36,7 @@ block-still layout r (step.Leaving t key why) had block h = refl
 block-still layout r (step.Ended end) had block h = refl
 
 goes-still : (layout : Layout) (n : ℕ) (r : ReaderMachine) (was s : RebuildStep) (had : List Pair) (next : Rebuild) → IsStill s →
-    state_of r.state s ≡ next → Goes (machine_of layout n r was) had next (machine_of layout n r s)
+    state_of r.state s ≡ next → IsRebuildAfter (machine_of layout n r was) had next (machine_of layout n r s)
 goes-still layout n r was s had next h is = record {
   layout = refl;
   node = refl;
@@ -51,7 +51,7 @@ IsPlain (told.Fetched a) = ⊥
 IsPlain a = Unit {0}
 
 answered : (m : Machine) (a : RebuildAnswer) (bins : List ℕ) (new : Machine) → IsPlain a →
-    Goes m m.pairs (told_in m.layout true m.state a) new → IsAnswered m a bins new
+    IsRebuildAfter m m.pairs (told_in m.layout true m.state a) new → FitsIfEnough m a bins new
 answered m (told.Probed loss) bins new h g = g
 answered m (told.Enrolled fence) bins new h g = g
 answered m (told.Denied cause) bins new h g = g
@@ -64,7 +64,7 @@ answered m told.Noted bins new h g = g
 answered m (told.Rechecked p) bins new h g = g
 
 pub answered-still : (layout : Layout) (n : ℕ) (r : ReaderMachine) (was s : RebuildStep) (a : RebuildAnswer) (bins : List ℕ) → IsPlain a → IsStill s →
-    state_of r.state s ≡ told_in layout true (state_of r.state was) a → IsAnswered (machine_of layout n r was) a bins (machine_of layout n r s)
+    state_of r.state s ≡ told_in layout true (state_of r.state was) a → FitsIfEnough (machine_of layout n r was) a bins (machine_of layout n r s)
 answered-still layout n r was s a bins plain h is = answered (machine_of layout n r was) a bins (machine_of layout n r s) plain
     (goes-still layout n r was s (pairs_of was r.pairs) (told_in layout true (state_of r.state was) a) h is)
 
@@ -81,6 +81,6 @@ pub plain-replaced : (a : RebuildAnswer) → IsReplaced a → IsPlain a
 plain-replaced (told.Fetched a) h = h
 plain-replaced _ h = tt
 
-pub plain-refilled : (a : RebuildAnswer) → IsRefilled a → IsPlain a
+pub plain-refilled : (a : RebuildAnswer) → IsRefillDone a → IsPlain a
 plain-refilled (told.Fetched a) h = h
 plain-refilled _ h = tt

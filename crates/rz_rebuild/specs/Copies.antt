@@ -9,7 +9,7 @@ use Rattle.rz_client_model.specs.Read.{IsFetched}
 use Rattle.rz_reader.specs.Machine.{Machine as ReaderMachine}
 use Rattle.rz_operation_model.specs.Rebuild.{after_copy}
 use Rattle.rz_rebuild.specs.declared.step.Copied.{Copied}
-use Rattle.rz_rebuild.specs.Machine.{Machine, HasBinsAt, Goes}
+use Rattle.rz_rebuild.specs.Machine.{Machine, HasBinsAt, IsRebuildAfter}
 use Rattle.rz_rebuild.specs.Inside.{tally_of}
 
 -- a fetch was asked, to which this is an answer
@@ -19,4 +19,4 @@ IsFetchAsk layout a bins question = ⊥
 
 -- the rebuild goes on as its read stands after an answer
 abbrev pub IsCopyTold : ReaderMachine → Machine → Copied → ReaderAnswer → Machine → Type 0
-IsCopyTold r m c a new = Goes m r.pairs (after_copy true (tally_of c.tally) c.listed c.base r.state a) new
+IsCopyTold r m c a new = IsRebuildAfter m r.pairs (after_copy true (tally_of c.tally) c.listed c.base r.state a) new

@@ -49,18 +49,18 @@ machine_of layout n r s =
 -- What holds between two answers.
 
 -- the listing was the look, and records of its stamp are fetched
-abbrev pub IsRead : ℕ → ReadStage → Type 0
-IsRead stamp Looking = ⊥
-IsRead stamp (Fetching t) = t.stamp ≡ stamp
-IsRead stamp (EndedRead end) = Unit {0}
+abbrev pub IsListedRead : ℕ → ReadStage → Type 0
+IsListedRead stamp Looking = ⊥
+IsListedRead stamp (Fetching t) = t.stamp ≡ stamp
+IsListedRead stamp (EndedRead end) = Unit {0}
 
 abbrev pub IsCopied : Layout → ℕ → Copied → Type 0
 IsCopied layout n c = IsListed layout n c.listed × (c.base < c.listed.published.stamp)
 
-abbrev pub IsStep : Layout → ℕ → ReaderMachine → RebuildStep → Type 0
-IsStep layout n r (step.Copying c) = IsCopied layout n c × IsFetchingStamp c.listed.published.stamp r.state.stage
-IsStep layout n r (step.Refilling c size) = IsCopied layout n c × (size ≤ block_bytes_of layout) × IsSome r.block
-IsStep layout n r s = Unit {0}
+abbrev pub IsRebuildStep : Layout → ℕ → ReaderMachine → RebuildStep → Type 0
+IsRebuildStep layout n r (step.Copying c) = IsCopied layout n c × IsFetchingStamp c.listed.published.stamp r.state.stage
+IsRebuildStep layout n r (step.Refilling c size) = IsCopied layout n c × (size ≤ block_bytes_of layout) × IsSome r.block
+IsRebuildStep layout n r s = Unit {0}
 
 -- the first bins are those of the refill
 abbrev pub IsProjected : Layout → ℕ → RebuildStep → Option Grid → List ℕ → Type 0
@@ -71,7 +71,7 @@ IsProjected layout n s block bins = Unit {0}
 pub record IsRebuilder (layout : Layout) (n : ℕ) (s : RebuildStep) (r : ReaderMachine) (bins : List ℕ) : Type 0 where
   pub room : length bins ≡ max_bins_of layout
   pub reader : r.state.layout ≡ layout
-  pub step : IsStep layout n r s
+  pub step : IsRebuildStep layout n r s
   pub ready : IsProjected layout n s r.block bins
 
 -- a step that reads no block and has none

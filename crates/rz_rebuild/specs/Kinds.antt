@@ -18,11 +18,11 @@ abbrev pub IsReplaced : RebuildAnswer → Type 0
 IsReplaced (told.Replaced answer) = Unit {0}
 IsReplaced a = ⊥
 
-abbrev pub IsListing : Layout → ℕ → RebuildAnswer → Type 0
-IsListing layout n (told.Listed l) = IsNextAnswer layout n l
-IsListing layout n a = ⊥
+abbrev pub IsListingAnswer : Layout → ℕ → RebuildAnswer → Type 0
+IsListingAnswer layout n (told.Listed l) = IsNextAnswer layout n l
+IsListingAnswer layout n a = ⊥
 
-abbrev pub IsRefilled : RebuildAnswer → Type 0
-IsRefilled (told.Refilled answer) = Unit {0}
-IsRefilled told.Missed = Unit {0}
-IsRefilled a = ⊥
+abbrev pub IsRefillDone : RebuildAnswer → Type 0
+IsRefillDone (told.Refilled answer) = Unit {0}
+IsRefillDone told.Missed = Unit {0}
+IsRefillDone a = ⊥

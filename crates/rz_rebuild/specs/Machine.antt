@@ -85,7 +85,7 @@ IsBlockIn layout pairs (Going s) block = IsBlockAt layout pairs s block
 IsBlockIn layout pairs (Ended end) block = block ≡ None
 
 -- the rebuild is this one after an answer; these were the pairs before it went on
-pub record Goes (m : Machine) (had : List Pair) (next : Rebuild) (new : Machine) : Type 0 where
+pub record IsRebuildAfter (m : Machine) (had : List Pair) (next : Rebuild) (new : Machine) : Type 0 where
   pub layout : new.layout ≡ m.layout
   pub node : new.node ≡ m.node
   pub state : new.state ≡ next
@@ -93,10 +93,10 @@ pub record Goes (m : Machine) (had : List Pair) (next : Rebuild) (new : Machine)
   pub block : IsBlockIn m.layout had new.state new.block
 
 -- where the records are enough, they fit exactly where some block has them
-abbrev pub IsAnswered : Machine → RebuildAnswer → List ℕ → Machine → Type 0
-IsAnswered m (told.Fetched a) bins new = (fits : Bool) × AreFitting m.layout (pairs_fetched m.layout m.state m.pairs a bins) fits
-    × Goes m (pairs_fetched m.layout m.state m.pairs a bins) (told_in m.layout fits m.state (told.Fetched a)) new
-IsAnswered m a bins new = Goes m m.pairs (told_in m.layout true m.state a) new
+abbrev pub FitsIfEnough : Machine → RebuildAnswer → List ℕ → Machine → Type 0
+FitsIfEnough m (told.Fetched a) bins new = (fits : Bool) × AreFitting m.layout (pairs_fetched m.layout m.state m.pairs a bins) fits
+    × IsRebuildAfter m (pairs_fetched m.layout m.state m.pairs a bins) (told_in m.layout fits m.state (told.Fetched a)) new
+FitsIfEnough m a bins new = IsRebuildAfter m m.pairs (told_in m.layout true m.state a) new
 
 -- What calls need.
 

@@ -4,7 +4,7 @@ ghost use Rattle.std.specs.Prelude.{◌≡◌, Some, true};
 ghost use Rattle.mj_angles.specs.declared.layout.Layout.{Layout};
 ghost use Rattle.rz_client_model.specs.declared.reading.ReaderState.{ReaderState};
 ghost use Rattle.rz_operation_model.specs.Rebuild.{Probing, Enrolling, Replacing, Refilling, one_more, end_of, after_refill, rebuild_told};
-ghost use Rattle.rz_rebuild.specs.Kinds.{IsProbed, IsEnrolled, IsReplaced, IsRefilled};
+ghost use Rattle.rz_rebuild.specs.Kinds.{IsProbed, IsEnrolled, IsReplaced, IsRefillDone};
 ghost use Rattle.rz_rebuild.specs.Inside.{state_of, tally_of, IsStill};
 
 use crate::step::{Copied, RebuildProgress, RebuildStep};
@@ -63,7 +63,7 @@ pub fn after_replace(loss: u64, fence: u64, answer: RebuildAnswer) -> RebuildSte
 
 /// How a rebuild goes on after the refill of a block.
 pub fn after_refill(copied: &Copied, length: u32, answer: RebuildAnswer) -> RebuildStep
-    requires { IsRefilled answer }
+    requires { IsRefillDone answer }
     ensures state { (layout : Layout) (r : ReaderState) → state_of r result ≡ rebuild_told layout true (Refilling (tally_of copied.now.tally) copied.now.listed length copied.now.base) answer }
     ensures still { IsStill result }
 {

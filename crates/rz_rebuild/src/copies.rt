@@ -6,8 +6,8 @@ ghost use Rattle.rz_client_model.specs.Read.{IsFetched, reader_ask, reader_end, 
 ghost use Rattle.rz_reader.specs.Machine.{IsBlockOf, pairs_at};
 ghost use Rattle.rz_reader.specs.Told.{IsOtherTold, IsFetchedInto};
 ghost use Rattle.rz_operation_model.specs.Rebuild.{Going, IsNextAnswer, IsListed, IsRebuildAnswer, IsFetchingStamp, after_next, after_read, reader_of, base_after, ask_to_copy};
-ghost use Rattle.rz_rebuild.specs.Machine.{IsAnswered, IsBlockIn, ComeWith, pairs_in};
-ghost use Rattle.rz_rebuild.specs.Inside.{IsStep, IsRead, IsCopied, machine_of, state_of, tally_of, pairs_of, block_of, step_after};
+ghost use Rattle.rz_rebuild.specs.Machine.{FitsIfEnough, IsBlockIn, ComeWith, pairs_in};
+ghost use Rattle.rz_rebuild.specs.Inside.{IsRebuildStep, IsListedRead, IsCopied, machine_of, state_of, tally_of, pairs_of, block_of, step_after};
 ghost use Rattle.rz_rebuild.specs.Copies.{IsFetchAsk, IsCopyTold};
 
 use crate::answers::{end_of, leaving};
@@ -28,7 +28,7 @@ pub fn after_next(
     requires layout { reader.old.state.layout ≡ layout }
     requires listed { IsNextAnswer layout node listed }
     ensures state { state_of reader.new.state result ≡ after_next layout (tally_of tally) listed }
-    ensures inside { IsStep layout node reader.new result }
+    ensures inside { IsRebuildStep layout node reader.new result }
     ensures layout { reader.new.state.layout ≡ layout }
     ensures pairs { pairs_of result reader.new.pairs ≡ [] }
     ensures block { block_of result reader.new.block ≡ None }
@@ -71,11 +71,11 @@ pub fn after_copy(
     reader: &mut Reader,
 ) -> RebuildStep
     requires layout { reader.old.state.layout ≡ layout }
-    requires step { IsStep layout node reader.old (RebuildStep.Copying copied.now) }
+    requires step { IsRebuildStep layout node reader.old (RebuildStep.Copying copied.now) }
     requires asked { IsRebuildAnswer layout node (ask_to_copy copied.now.listed.key (reader_ask reader.old.state)) answer }
     requires bins { ComeWith layout (ask_to_copy copied.now.listed.key (reader_ask reader.old.state)) answer bins.now }
-    ensures goes { IsAnswered (machine_of layout node reader.old (RebuildStep.Copying copied.now)) answer bins.now (machine_of layout node reader.new result) }
-    ensures inside { IsStep layout node reader.new result }
+    ensures goes { FitsIfEnough (machine_of layout node reader.old (RebuildStep.Copying copied.now)) answer bins.now (machine_of layout node reader.new result) }
+    ensures inside { IsRebuildStep layout node reader.new result }
     ensures layout { reader.new.state.layout ≡ layout }
 {
     match answer {
@@ -107,10 +107,10 @@ fn after_fetched(
     reader: &mut Reader,
 ) -> RebuildStep
     requires layout { reader.old.state.layout ≡ layout }
-    requires step { IsStep layout node reader.old (RebuildStep.Copying copied.now) }
+    requires step { IsRebuildStep layout node reader.old (RebuildStep.Copying copied.now) }
     requires asked { IsFetchAsk layout answer bins.now (reader_ask reader.old.state) }
-    ensures goes { IsAnswered (machine_of layout node reader.old (RebuildStep.Copying copied.now)) (RebuildAnswer.Fetched answer) bins.now (machine_of layout node reader.new result) }
-    ensures inside { IsStep layout node reader.new result }
+    ensures goes { FitsIfEnough (machine_of layout node reader.old (RebuildStep.Copying copied.now)) (RebuildAnswer.Fetched answer) bins.now (machine_of layout node reader.new result) }
+    ensures inside { IsRebuildStep layout node reader.new result }
     ensures layout { reader.new.state.layout ≡ layout }
 {
     let base = base_after(
@@ -128,7 +128,7 @@ fn after_fetched(
 fn tell_fetch(reader: &mut Reader, answer: FetchAnswer, bins: &[u64])
     requires asked { IsFetchAsk reader.old.state.layout answer bins.now (reader_ask reader.old.state) }
     ensures told { IsFetchedInto reader.old answer bins.now reader.new }
-    ensures stamp { (stamp : ℕ) → IsFetchingStamp stamp reader.old.state.stage → IsRead stamp reader.new.state.stage }
+    ensures stamp { (stamp : ℕ) → IsFetchingStamp stamp reader.old.state.stage → IsListedRead stamp reader.new.state.stage }
 {
     reader.tell(ReaderAnswer::Fetched(answer), bins);
 }
@@ -142,10 +142,10 @@ fn after_other(
     reader: &mut Reader,
 ) -> RebuildStep
     requires layout { reader.old.state.layout ≡ layout }
-    requires step { IsStep layout node reader.old (RebuildStep.Copying copied.now) }
+    requires step { IsRebuildStep layout node reader.old (RebuildStep.Copying copied.now) }
     requires asked { IsOtherTold layout (reader_ask reader.old.state) answer }
     ensures goes { IsCopyTold reader.old (machine_of layout node reader.old (RebuildStep.Copying copied.now)) copied.now answer (machine_of layout node reader.new result) }
-    ensures inside { IsStep layout node reader.new result }
+    ensures inside { IsRebuildStep layout node reader.new result }
     ensures layout { reader.new.state.layout ≡ layout }
 {
     tell_other(reader, answer);
@@ -158,7 +158,7 @@ fn tell_other(reader: &mut Reader, answer: ReaderAnswer)
     ensures state { reader.new.state ≡ reader_told true reader.old.state answer }
     ensures pairs { reader.new.pairs ≡ pairs_at reader.new.state.stage reader.old.pairs }
     ensures block { IsBlockOf reader.old.state.layout reader.old.pairs reader.new.state.stage reader.new.block }
-    ensures stamp { (stamp : ℕ) → IsFetchingStamp stamp reader.old.state.stage → IsRead stamp reader.new.state.stage }
+    ensures stamp { (stamp : ℕ) → IsFetchingStamp stamp reader.old.state.stage → IsListedRead stamp reader.new.state.stage }
 {
     reader.tell(answer, &[]);
 }
@@ -188,9 +188,9 @@ fn base_after(layout: Layout, stamp: u64, stage: &ReadStage, base: u64, answer: 
 fn after_read(layout: Layout, node: u16, copied: Copied, reader: &Reader) -> RebuildStep
     requires layout { reader.now.state.layout ≡ layout }
     requires copied { IsCopied layout node copied }
-    requires read { IsRead copied.listed.published.stamp reader.now.state.stage }
+    requires read { IsListedRead copied.listed.published.stamp reader.now.state.stage }
     ensures state { state_of reader.now.state result ≡ Going (after_read (tally_of copied.tally) copied.listed copied.base reader.now.state (reader_end reader.now.state)) }
-    ensures inside { IsStep layout node reader.now result }
+    ensures inside { IsRebuildStep layout node reader.now result }
     ensures pairs { (had : List Pair) → reader.now.pairs ≡ pairs_at reader.now.state.stage had → pairs_of result reader.now.pairs ≡ pairs_in (state_of reader.now.state result) had }
     ensures block { (had : List Pair) → IsBlockOf layout had reader.now.state.stage reader.now.block → IsBlockIn layout had (state_of reader.now.state result) (block_of result reader.now.block) }
 {

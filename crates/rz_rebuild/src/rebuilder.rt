@@ -3,9 +3,9 @@
 ghost use Rattle.std.specs.Prelude.{◌≡◌, ◌↔◌, IfOk, IsTrue, ℕ, List, length};
 ghost use Rattle.mj_angles.specs.Layout.{safe_of, max_bins_of};
 ghost use Rattle.rz_operation_model.specs.Rebuild.{IsRebuildAnswer};
-ghost use Rattle.rz_rebuild.specs.Machine.{machine_for, ask_in, end_in, IsUnderWay, IsAskOf, ComeWith, IsAnswered, IsRefill, AreBins, IsCountFor};
-ghost use Rattle.rz_rebuild.specs.Kinds.{IsListing};
-ghost use Rattle.rz_rebuild.specs.Inside.{IsStep, IsProjected, machine_of, state_of};
+ghost use Rattle.rz_rebuild.specs.Machine.{machine_for, ask_in, end_in, IsUnderWay, IsAskOf, ComeWith, FitsIfEnough, IsRefill, AreBins, IsCountFor};
+ghost use Rattle.rz_rebuild.specs.Kinds.{IsListingAnswer};
+ghost use Rattle.rz_rebuild.specs.Inside.{IsRebuildStep, IsProjected, machine_of, state_of};
 
 use crate::answers::{after_enroll, after_left, after_probe, after_refill, after_replace};
 use crate::asks::{ask, position_of};
@@ -85,7 +85,7 @@ impl Rebuilder {
     pub fn tell(&mut self, answer: RebuildAnswer, bins: &[u64])
         requires asked { IsRebuildAnswer self.old.layout self.old.node (ask_in self.old.node self.old.state) answer }
         requires bins { ComeWith self.old.layout (ask_in self.old.node self.old.state) answer bins.now }
-        ensures answered { IsAnswered self.old answer bins.now self.new }
+        ensures answered { FitsIfEnough self.old answer bins.now self.new }
         ensures layout { self.new.layout ≡ self.old.layout }
         ensures node { self.new.node ≡ self.old.node }
     {
@@ -127,11 +127,11 @@ fn after(
     reader: &mut Reader,
 ) -> RebuildStep
     requires layout { reader.old.state.layout ≡ layout }
-    requires step { IsStep layout node reader.old step.now }
+    requires step { IsRebuildStep layout node reader.old step.now }
     requires asked { IsRebuildAnswer layout node (ask_in node (state_of reader.old.state step.now)) answer }
     requires bins { ComeWith layout (ask_in node (state_of reader.old.state step.now)) answer bins.now }
-    ensures goes { IsAnswered (machine_of layout node reader.old step.now) answer bins.now (machine_of layout node reader.new result) }
-    ensures inside { IsStep layout node reader.new result }
+    ensures goes { FitsIfEnough (machine_of layout node reader.old step.now) answer bins.now (machine_of layout node reader.new result) }
+    ensures inside { IsRebuildStep layout node reader.new result }
     ensures layout { reader.new.state.layout ≡ layout }
 {
     match step {
@@ -155,9 +155,9 @@ fn after_listing(
     reader: &mut Reader,
 ) -> RebuildStep
     requires layout { reader.old.state.layout ≡ layout }
-    requires asked { IsListing layout node answer }
-    ensures goes { (bins : List ℕ) → IsAnswered (machine_of layout node reader.old (RebuildStep.Listing tally)) answer bins (machine_of layout node reader.new result) }
-    ensures inside { IsStep layout node reader.new result }
+    requires asked { IsListingAnswer layout node answer }
+    ensures goes { (bins : List ℕ) → FitsIfEnough (machine_of layout node reader.old (RebuildStep.Listing tally)) answer bins (machine_of layout node reader.new result) }
+    ensures inside { IsRebuildStep layout node reader.new result }
     ensures layout { reader.new.state.layout ≡ layout }
 {
     let RebuildAnswer::Listed(listed) = answer else {
@@ -169,7 +169,7 @@ fn after_listing(
 /// Projects the block in hand at the position of the node, where it is to have it as a refill.
 fn prepare(layout: Layout, node: u16, step: &RebuildStep, reader: &Reader, bins: &mut [u64])
     requires layout { reader.now.state.layout ≡ layout }
-    requires step { IsStep layout node reader.now step.now }
+    requires step { IsRebuildStep layout node reader.now step.now }
     requires room { length bins.old ≡ max_bins_of layout }
     ensures { IsProjected layout node step.now reader.now.block bins.new }
 {

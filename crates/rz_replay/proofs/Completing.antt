@@ -7,7 +7,7 @@ use Rattle.rz_restart_laws.specs.Earlier.{IsEarlier, IsRestarted}
 use Rattle.rz_nodes.specs.declared.refusal.OpenRefusal.TheVariants.{Open}
 use Rattle.rz_driver.specs.Continued.{AreLeft, IsCauseAgain}
 use Rattle.rz_player.specs.declared.lines.PlayEnd.TheVariants as ends
-use Rattle.rz_request.specs.Requests.{IsFor, script_in}
+use Rattle.rz_request.specs.Requests.{IsRequestFor, script_in}
 use Rattle.rz_request.specs.declared.refusal.Stop.{Stop}
 use Rattle.rz_request.specs.declared.wishes.Request.{Request}
 use Rattle.rz_request.specs.declared.wishes.Wish.{Wish}
@@ -17,7 +17,7 @@ use Rattle.rz_report.specs.Output.{Sunk}
 use Rattle.rz_report.specs.Replays.{Course, Unplayed, Unopened, Performed, Ensues}
 use Rattle.rz_report.proofs.Asked.{HasCome}
 use Rattle.rz_report.proofs.Completing.{come}
-use Rattle.rz_replay.specs.Clear.{IsComplete}
+use Rattle.rz_replay.specs.Clear.{ResumeCompletes}
 use Rattle.rz_replay.specs.Disks.{AreBackAgain, AreBackFrom, HandsBack, IsPlayAfter, faulted}
 
 module _ {D : Type 0} (text : D → List ℕ) (meter : D → Meter) (image : D → List ℕ → Type 0) (old new : List D) (lost : ℕ) (h : List Event) (s : Script) where
@@ -25,7 +25,7 @@ module _ {D : Type 0} (text : D → List ℕ) (meter : D → Meter) (image : D �
   abbrev Back : Course → Type 0
   Back course = (course ≡ Unplayed) ⊎ AreBackAgain true text meter image course s.volume s.lines lost old new h
 
-  back-from : (sink : Sunk) (status : ℕ) (course : Course) (result : Result Request Stop) → HasCome s (script_in result) → IsFor Again result → Ensues true course result (faulted meter old new) lost sink status h
+  back-from : (sink : Sunk) (status : ℕ) (course : Course) (result : Result Request Stop) → HasCome s (script_in result) → IsRequestFor Again result → Ensues true course result (faulted meter old new) lost sink status h
       → HandsBack true text meter image course result lost old new h → Back course
   back-from sink status course (Err stop) came for e back = inl e.2
   back-from sink status course (Ok r) came for e back =
@@ -67,7 +67,7 @@ module _ {D : Type 0} (text : D → List ℕ) (meter : D → Meter) (image : D �
         let on = used.goes_on refl earlier is_earlier left in
         absurd (whole used.nodes used.nodes_back used.journal used.journal_back used.old_are used.new_are on.journal_told.ends.0)
 
-pub complete : IsCompleteAgain → {D : Type 0} (text : D → List ℕ) (meter : D → Meter) (image : D → List ℕ → Type 0) → IsComplete text meter image
+pub complete : IsCompleteAgain → {D : Type 0} (text : D → List ℕ) (meter : D → Meter) (image : D → List ℕ → Type 0) → ResumeCompletes text meter image
 complete law text meter image words source old new lost sink status h course result asks ensues back s earlier clear =
     let p = clear.playable in
     let came = come words source (length old) (faulted meter old new) course sink s result Again p asks in

@@ -5,11 +5,11 @@ use Rattle.rz_driver.specs.Continued.{IsCauseAgain}
 use Rattle.rz_events.specs.Volume.{Volume}
 use Rattle.rz_events.specs.declared.events.Event.{Event}
 use Rattle.rz_player.specs.declared.lines.PlayEnd.{PlayEnd}
-use Rattle.rz_nodes.specs.Opened.{AreKept}
+use Rattle.rz_nodes.specs.Opened.{AreDisksBack}
 use Rattle.rz_nodes.specs.declared.refusal.OpenRefusal.{OpenRefusal}
 use Rattle.rz_nodes.specs.declared.refusal.OpenRefusal.TheVariants as opens
 use Rattle.rz_report.specs.Output.{Sunk}
-use Rattle.rz_report.specs.Replays.{Course, Unplayed, Unopened, Follows, IsToldAs}
+use Rattle.rz_report.specs.Replays.{Course, Unplayed, Unopened, FollowsRequest, IsToldAs}
 use Rattle.rz_report.specs.Telling.{IsPlayAgain, PerformsAs, TellsOwn}
 use Rattle.rz_request.specs.declared.wishes.Request.{Request}
 use Rattle.rz_request.specs.declared.wishes.Wish.{Wish}
@@ -31,8 +31,8 @@ any_told wish v lines lost h is = subst (λ (w : Wish). IsToldAs w v lines lost 
 
 -- where the disks did not open again
 pub not-reopened : {D : Type 0} (tells : Bool) (text : D → List ℕ) (meter : D → Meter) (image : D → List ℕ → Type 0) (r : Request) (old new : List D) (lost : ℕ) (sink : Sunk) (status : ℕ) (h : List Event) (why : OpenRefusal)
-    → r.wish ≡ Again → AreKept meter text image old new → IsCauseAgain tells meter text image r.script.volume old new why → FailsAgain why sink status → h ≡ []
-    → (course : Course) × Follows tells course r (faulted meter old new) lost sink status h × HandsBack tells text meter image course (Ok r) lost old new h
+    → r.wish ≡ Again → AreDisksBack meter text image old new → IsCauseAgain tells meter text image r.script.volume old new why → FailsAgain why sink status → h ≡ []
+    → (course : Course) × FollowsRequest tells course r (faulted meter old new) lost sink status h × HandsBack tells text meter image course (Ok r) lost old new h
 not-reopened tells text meter image r old new lost sink status h opens.NoMemory is kept cause fails none = (
   Unplayed,
   (inl (fails, none), λ telling. any_told r.wish r.script.volume r.script.lines lost h is),

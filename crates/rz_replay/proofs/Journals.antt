@@ -25,7 +25,7 @@ use Rattle.rz_request.specs.declared.wishes.Wish.{Wish}
 use Rattle.rz_request.specs.declared.wishes.Wish.TheVariants as wishes
 use Rattle.rz_report.specs.Replays.{Course, Faulted, HasJournal, MayEnd}
 use Rattle.rz_report.specs.Scrubs.{BetweenTurns}
-use Rattle.rz_replay.specs.Disks.{AreAllBack, AreBackAgain, AreBackFrom, AreFaultsTold, AreImagesTold, IsJournalLeft, LeavesNext, MayFollow, asked_in, refused_by}
+use Rattle.rz_replay.specs.Disks.{AreAllBack, AreBackAgain, AreBackFrom, AreFaultsTold, AreImagesTold, IsJournalLeft, LeavesNext, MayBeResumed, asked_in, refused_by}
 
 -- Without a journal.
 
@@ -169,5 +169,5 @@ next-on ends.JournalFull so then on h = on h
 next-on ends.NoMemory so then on h = tt
 next-on ends.Journal so then on h = tt
 
-pub may-follow : {D : Type 0} (image : D → List ℕ → Type 0) (v : Volume) (h : List Event) (disks : List D) → IsLegalInRuns v h → AreLeft image v h disks → MayFollow image v h disks
+pub may-follow : {D : Type 0} (image : D → List ℕ → Type 0) (v : Volume) (h : List Event) (disks : List D) → IsLegalInRuns v h → AreLeft image v h disks → MayBeResumed image v h disks
 may-follow image v h disks legal left = record { earlier = λ few there. record { legal = legal; few = few; there = there }; left = left }

@@ -32,12 +32,12 @@ use Rattle.rz_node_laws.specs.Laws.{IsFetchLaw, IsReadBack}
 use Rattle.rz_play.specs.World.{World}
 use Rattle.rz_scrub_report.specs.Asks.{AreGiven}
 use Rattle.rz_scrub_report.specs.Scrubs.{EachListed}
-use Rattle.rz_driver_actors.specs.declared.agenda.Agenda.{Agenda}
+use Rattle.rz_driver_actors.specs.declared.actor_agenda.Agenda.{Agenda}
 use Rattle.rz_nodes.specs.declared.formatting.Server.{Server}
 use Rattle.rz_driver_nodes.specs.Fetches.{GivesIn}
 use Rattle.rz_driver_nodes.specs.Asked.{fused_text}
 use Rattle.rz_driver_nodes.specs.Images.{AreImaged, HasImages, fused_image}
-use Rattle.rz_driver.specs.Pictures.{IsPicture}
+use Rattle.rz_driver.specs.Coherence.{IsCoherent}
 use Rattle.rz_driver_nodes.specs.Servers.{state_in}
 use Rattle.rz_driver_nodes.proofs.Rows.{all-at, state-at}
 use Rattle.rz_replay.proofs.Blocks.{front, is-block, length-bins, of-record, position-is}
@@ -97,18 +97,18 @@ module _ {D : Type 0} (tells : Bool) (text : D → List ℕ) (image : D → List
       ((λ c has. has), gives told_it) own
 
   pub given-back : ((v : Volume) → AreLaid v) → (v : Volume) (old : List Event) (w : World) (agendas : List Agenda) (servers : List (Server (UnderFuse D))) → w.nodes ≡ state_in servers
-      → IsPicture (fused_image image) v old w agendas servers
+      → IsCoherent (fused_image image) v old w agendas servers
       → EachListed w.export (λ l. AreGiven v.layout (GivesIn tells (fused_text text) servers) w.nodes l (block_of v.layout (text_in ((facts (w.log ++ old)).wrote l.published.stamp))))
-  given-back laid v old w agendas servers same picture after l listed =
+  given-back laid v old w agendas servers same coherence after l listed =
       let f = facts (w.log ++ old) in
-      let fine = picture.fine in
+      let fine = coherence.fine in
       let legal : IsLegalInRuns v (w.log ++ old) = subst (IsLegalInRuns v) (sym fine.log_is) (next-run v old fine.run fine.legal) in
       let file = ap (λ (s : ExportState). file_of s.tree l.key.fid) (sym fine.export_is) ∙ listed-file w.export after l listed in
       let placed : f.places l.key.fid ≡ Some l.info.places = file-places v (w.log ++ old) legal l.key.fid l.info file in
-      let apart = (laid v picture.rules (w.log ++ old) legal l.key.fid l.info.places placed).apart in
+      let apart = (laid v coherence.rules (w.log ++ old) legal l.key.fid l.info.places placed).apart in
       record {
         block = is-block v.layout (text_in (f.wrote l.published.stamp));
         each = λ position n told before room at answers gives.
             of-write v f l placed apart n position at told before room (told-stamp (w.nodes n) l.key l.published.stamp told answers)
-            (read-back v f servers picture.disks n l.key l.published.stamp told before room (subst (λ (nodes : ℕ → NodeState). IsFetchAnswer (fetch_answer (nodes n) l.key l.published.stamp) (fetch.Held told)) same answers) gives);
+            (read-back v f servers coherence.disks n l.key l.published.stamp told before room (subst (λ (nodes : ℕ → NodeState). IsFetchAnswer (fetch_answer (nodes n) l.key l.published.stamp) (fetch.Held told)) same answers) gives);
       }

@@ -20,7 +20,7 @@ use Rattle.rz_replay.specs.Disks.{HandsBack, IsPlayAfter, faulted}
 -- The words wish for the script to go on over disks as earlier runs with this log left them, of which none is such that it does not
 -- open. No play of the script behind that log, with the nodes stopped and started, calls for a turn too many. The last disk, that of
 -- the journal, counted no fault, and no call found it full.
-pub record IsClear {D : Type 0} (text : D → List ℕ) (meter : D → Meter) (image : D → List ℕ → Type 0) (words : Option Meaning) (source : Reading) (old new : List D) (lost : ℕ) (course : Course) (sink : Sunk) (s : Script) (earlier : List Event) : Type 0 where
+pub record IsResumeClear {D : Type 0} (text : D → List ℕ) (meter : D → Meter) (image : D → List ℕ → Type 0) (words : Option Meaning) (source : Reading) (old new : List D) (lost : ℕ) (course : Course) (sink : Sunk) (s : Script) (earlier : List Event) : Type 0 where
   pub playable : IsPlayable words source (length old) (faulted meter old new) course sink Again s
   pub is_earlier : IsEarlier s.volume earlier
   pub left : AreLeft image s.volume earlier old
@@ -31,8 +31,8 @@ pub record IsClear {D : Type 0} (text : D → List ℕ) (meter : D → Meter) (i
 
 -- Where nothing stands in its way, a replay that goes on after earlier runs, over disks that tell their texts, comes to its end, or
 -- memory is wanting.
-abbrev pub IsComplete : {D : Type 0} → (D → List ℕ) → (D → Meter) → (D → List ℕ → Type 0) → Type 0
-IsComplete {D = D} text meter image =
+abbrev pub ResumeCompletes : {D : Type 0} → (D → List ℕ) → (D → Meter) → (D → List ℕ → Type 0) → Type 0
+ResumeCompletes {D = D} text meter image =
     (words : Option Meaning) (source : Reading) (old new : List D) (lost : ℕ) (sink : Sunk) (status : ℕ) (h : List Event) (course : Course) (r : Result Request Stop)
     → Asks words source (length old) r → Ensues true course r (faulted meter old new) lost sink status h → HandsBack true text meter image course r lost old new h
-    → (s : Script) (earlier : List Event) → IsClear text meter image words source old new lost course sink s earlier → IsFinishedAgain course sink status h ⊎ Lacks sink status
+    → (s : Script) (earlier : List Event) → IsResumeClear text meter image words source old new lost course sink s earlier → IsFinishedAgain course sink status h ⊎ Lacks sink status

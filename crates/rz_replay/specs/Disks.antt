@@ -16,7 +16,7 @@ use Rattle.rz_driver.specs.Formatted.{IsJournalBack}
 use Rattle.rz_core.specs.History.{of_word}
 use Rattle.rz_core.specs.NodeRows.{IsNodeOf}
 use Rattle.rz_core.specs.NodeWord.{phase}
-use Rattle.rz_nodes.specs.Opened.{AreKept}
+use Rattle.rz_nodes.specs.Opened.{AreDisksBack}
 use Rattle.rz_nodes.specs.declared.refusal.OpenRefusal.TheVariants.{Open}
 use Rattle.rz_driver.specs.Continued.{AreLeft, IsCauseAgain}
 use Rattle.rz_restart_laws.specs.Earlier.{IsEarlier, IsRestarted}
@@ -88,7 +88,7 @@ IsJournalTold tells meter image (Performed end later) v old new h = IsJournalLef
 
 -- What a run leaves for one more, which goes on over its disks: they are as that run takes them, and the log is one of earlier runs,
 -- if it has fewer than 2^63 events and no node is lost after it.
-pub record MayFollow {D : Type 0} (image : D → List ℕ → Type 0) (v : Volume) (h : List Event) (disks : List D) : Type 0 where
+pub record MayBeResumed {D : Type 0} (image : D → List ℕ → Type 0) (v : Volume) (h : List Event) (disks : List D) : Type 0 where
   pub earlier : length h < 2 ^ 63 → ((n : ℕ) → IsNodeOf v n → phase (of_word (Node n) h) ≢ Lost) → IsEarlier v h
   pub left : AreLeft image v h disks
 
@@ -103,7 +103,7 @@ LeavesNext Journal next = Unit {0}
 abbrev pub IsNextTold : {D : Type 0} → Bool → (D → List ℕ → Type 0) → Course → Volume → List D → List Event → Type 0
 IsNextTold tells image Unplayed v new h = Unit {0}
 IsNextTold tells image (Unopened index cause) v new h = Unit {0}
-IsNextTold tells image (Performed end later) v new h = IsTrue tells → LeavesNext end (MayFollow image v h new)
+IsNextTold tells image (Performed end later) v new h = IsTrue tells → LeavesNext end (MayBeResumed image v h new)
 
 -- The disks of the nodes, and behind them that of a journal. The faults of the nodes are told by the log with the records that were
 -- asked for after it.
@@ -146,7 +146,7 @@ pub record IsGoneOn {D : Type 0} (tells : Bool) (meter : D → Meter) (image : D
   pub faults_told : AreFaultsTold meter v disks nodes_back h
   pub images_told : AreImagesTold tells meter image (Performed end []) v disks nodes_back (h ++ old)
   pub journal_told : IsJournalLeft tells meter image end v journal journal_back (h ++ old)
-  pub next : LeavesNext end (MayFollow image v (h ++ old) (nodes_back ++ journal_back ∷ []))
+  pub next : LeavesNext end (MayBeResumed image v (h ++ old) (nodes_back ++ journal_back ∷ []))
 
 -- The disks of the nodes, and behind them that of the journal, which were used again. Over disks that tell their texts the play
 -- went on after each earlier log that the disks stood for. Over others the faults of the nodes are told by the log alone.
@@ -164,8 +164,8 @@ pub record AreUsedAgain {D : Type 0} (tells : Bool) (meter : D → Meter) (image
 -- Disks that were to be used again. Where no play began each has the text that it came with, each image is one from before, and no
 -- count of faults fell; and where one did not open, this is why.
 abbrev pub AreBackAgain : {D : Type 0} → Bool → (D → List ℕ) → (D → Meter) → (D → List ℕ → Type 0) → Course → Volume → List Line → ℕ → List D → List D → List Event → Type 0
-AreBackAgain tells text meter image Unplayed v lines lost old new h = AreKept meter text image old new
-AreBackAgain tells text meter image (Unopened index cause) v lines lost old new h = AreKept meter text image old new × IsCauseAgain tells meter text image v old new (Open index cause)
+AreBackAgain tells text meter image Unplayed v lines lost old new h = AreDisksBack meter text image old new
+AreBackAgain tells text meter image (Unopened index cause) v lines lost old new h = AreDisksBack meter text image old new × IsCauseAgain tells meter text image v old new (Open index cause)
 AreBackAgain tells text meter image (Performed end later) v lines lost old new h = AreUsedAgain tells meter image end v lines lost old new h
 
 -- the disks of a request that was played, which for `first` and `again` are one more than the nodes

@@ -14,6 +14,6 @@ TellsMigration (Ok m) sink status = Ends sink 0 (migrated_line m) status ⊎ Lac
 TellsMigration (Err stop) sink status = Stops stop sink status
 
 -- the old disk of node `sid` is carried over, or why it is not; and that is told
-abbrev pub Carries : {D : Type 0} → Bool → (D → List ℕ) → (D → List ℕ → Type 0) → (D → Meter) → (sid : ℕ) → Reading → List D → List D → Sunk → ℕ → Type 0
-Carries tells text image meter sid source old new sink status =
+abbrev pub IsMigrationTold : {D : Type 0} → Bool → (D → List ℕ) → (D → List ℕ → Type 0) → (D → Meter) → (sid : ℕ) → Reading → List D → List D → Sunk → ℕ → Type 0
+IsMigrationTold tells text image meter sid source old new sink status =
     (r : Result Migrated Stop) × Migrates tells text image meter sid source old new r × TellsMigration r sink status

@@ -8,12 +8,12 @@ use Rattle.rz_core.specs.History.{facts, text_in}
 use Rattle.rz_play.specs.World.{World}
 use Rattle.rz_scrub_report.specs.Asks.{AreGiven}
 use Rattle.rz_scrub_report.specs.Scrubs.{EachListed}
-use Rattle.rz_driver_actors.specs.declared.agenda.Agenda.{Agenda}
+use Rattle.rz_driver_actors.specs.declared.actor_agenda.Agenda.{Agenda}
 use Rattle.rz_nodes.specs.declared.formatting.Server.{Server}
 use Rattle.rz_driver_nodes.specs.Fetches.{GivesIn}
 use Rattle.rz_driver_nodes.specs.Asked.{fused_text}
 use Rattle.rz_driver_nodes.specs.Images.{fused_image}
-use Rattle.rz_driver.specs.Pictures.{IsPicture}
+use Rattle.rz_driver.specs.Coherence.{IsCoherent}
 use Rattle.rz_driver_nodes.specs.Servers.{state_in}
 
 -- Of each published block the nodes give the projections of the text with which the write of its stamp began, in this run or in an
@@ -21,5 +21,5 @@ use Rattle.rz_driver_nodes.specs.Servers.{state_in}
 abbrev pub IsUntouchedLaw : {D : Type 0} → Bool → (D → List ℕ) → (D → List ℕ → Type 0) → Type 0
 IsUntouchedLaw {D = D} tells text image =
     (v : Volume) (old : List Event) (w : World) (agendas : List Agenda) (servers : List (Server (UnderFuse D))) → w.nodes ≡ state_in servers
-    → IsPicture (fused_image image) v old w agendas servers → IsTrue tells
+    → IsCoherent (fused_image image) v old w agendas servers → IsTrue tells
     → EachListed w.export (λ l. AreGiven v.layout (GivesIn tells (fused_text text) servers) w.nodes l (block_of v.layout (text_in ((facts (w.log ++ old)).wrote l.published.stamp))))

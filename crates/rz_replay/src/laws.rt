@@ -1,6 +1,6 @@
 //! Laws without code: when a replay that goes on after earlier runs comes to its end, and what a scrub finds.
 
-ghost use Rattle.rz_replay.specs.Clear.{IsComplete};
+ghost use Rattle.rz_replay.specs.Clear.{ResumeCompletes};
 ghost use Rattle.rz_replay.specs.Untouched.{IsUntouchedLaw};
 
 use rz_disk::Disk;
@@ -9,7 +9,7 @@ use rz_disk::Disk;
 /// turn too many is called for, the journal's disk neither fails nor is full, and neither the source nor the
 /// sink fails. Want of memory is the one other answer.
 pub fn completes_again<D: Disk>()
-    ensures { IsComplete D.text D.meter D.image }
+    ensures { ResumeCompletes D.text D.meter D.image }
 {
     rz_report::completes_again();
 }

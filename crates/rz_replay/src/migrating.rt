@@ -1,6 +1,6 @@
 //! A node's old disk carried over onto a new one, and what is told of it.
 
-ghost use Rattle.rz_replay.specs.Migrations.{Carries, TellsMigration};
+ghost use Rattle.rz_replay.specs.Migrations.{IsMigrationTold, TellsMigration};
 
 use rz_disk::Disk;
 use rz_ports::{Sink, Source};
@@ -31,7 +31,7 @@ pub fn carry<I: Source, O: Sink, D: Disk>(
     output: &mut O,
     disks: &mut Vec<D>,
 ) -> u8
-    ensures { Carries D.tells D.text D.image D.meter sid (record { before = I.left input.old; after = I.left input.new; old = I.faults input.old; new = I.faults input.new }) disks.old.items disks.new.items (record { before = O.taken output.old; after = O.taken output.new; old = O.faults output.old; new = O.faults output.new }) result }
+    ensures { IsMigrationTold D.tells D.text D.image D.meter sid (record { before = I.left input.old; after = I.left input.new; old = I.faults input.old; new = I.faults input.new }) disks.old.items disks.new.items (record { before = O.taken output.old; after = O.taken output.new; old = O.faults output.old; new = O.faults output.new }) result }
 {
     let outcome = migrate(alloc, sid, input, disks);
     tell(alloc, &outcome, output)

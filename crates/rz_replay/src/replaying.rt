@@ -5,7 +5,7 @@ ghost use Rattle.rz_request.specs.Line.{meaning};
 ghost use Rattle.rz_request.specs.Requests.{disks_for, nodes_in};
 ghost use Rattle.rz_request.specs.declared.wishes.Wish.TheVariants.{First, Again};
 ghost use Rattle.rz_play_laws.specs.Runs.{IsScript};
-ghost use Rattle.rz_replay.specs.Replays.{FailsAgain, Plays, PlaysRequest, Replays, old_node_of};
+ghost use Rattle.rz_replay.specs.Replays.{FailsAgain, PlaysReplay, PlaysRequest, Replays, old_node_of};
 
 use crate::laws::untouched;
 use crate::migrating::carry;
@@ -230,7 +230,7 @@ fn play_words<I: Source, O: Sink, D: Disk, L: Link>(
     disks: &mut Vec<D>,
     link: &mut L,
 ) -> Played
-    ensures { Plays D.tells D.text D.meter D.image (meaning (map string_bytes words.now)) (record { before = I.left input.old; after = I.left input.new; old = I.faults input.old; new = I.faults input.new }) disks.old.items disks.new.items (L.lost link.new - L.lost link.old) (record { before = O.taken output.old; after = O.taken output.new; old = O.faults output.old; new = O.faults output.new }) result.status (reverse result.log.items) }
+    ensures { PlaysReplay D.tells D.text D.meter D.image (meaning (map string_bytes words.now)) (record { before = I.left input.old; after = I.left input.new; old = I.faults input.old; new = I.faults input.new }) disks.old.items disks.new.items (L.lost link.new - L.lost link.old) (record { before = O.taken output.old; after = O.taken output.new; old = O.faults output.old; new = O.faults output.new }) result.status (reverse result.log.items) }
 {
     let count = disks.len() as u64;
     match request(alloc, words, input, count) {

@@ -13,8 +13,8 @@ use Rattle.rz_request.specs.declared.wishes.Wish.{Wish}
 use Rattle.rz_request.specs.declared.wishes.Wish.TheVariants.{Replay, Load, Scrub, First, Again}
 use Rattle.rz_report.specs.Output.{Lacks, Sunk}
 use Rattle.rz_report.specs.Replays.{IsToldAs}
-use Rattle.rz_report.specs.Told.{IsTold}
-use Rattle.rz_report.specs.Scrubs.{AreFound, AreFoundFrom}
+use Rattle.rz_report.specs.Told.{IsPlayReported}
+use Rattle.rz_report.specs.Scrubs.{AreScrubsFound, AreFoundFrom}
 use Rattle.rz_report.specs.Telling.{IsPlayAgain, IsPlayOf, Performs, PerformsAs, PerformsBehind, Says, TellsOwn}
 
 module _ (holds : Before → Type 0) (tells : Bool) (v : Volume) (w : World) (lines : List Line) (wish : Wish) (end : PlayEnd) (later : List Event) (lost : ℕ) (log : List Event)
@@ -26,7 +26,7 @@ module _ (holds : Before → Type 0) (tells : Bool) (v : Volume) (w : World) (li
       let R : List Event → Type 0 = λ h. IsPlayOf tells v (new_world v) lines end lost h log in
       subst R (append-nil log) (subst Q new (subst P none (plays b held)))
 
-  found_anew : (found : List ℕ) → ((b : Before) → holds b → AreFoundFrom tells v (behind b.log w) lines end wish (log ++ b.log) later found) → AreFound tells v lines end wish log later found
+  found_anew : (found : List ℕ) → ((b : Before) → holds b → AreFoundFrom tells v (behind b.log w) lines end wish (log ++ b.log) later found) → AreScrubsFound tells v lines end wish log later found
   found_anew found finds =
       let P : List Event → Type 0 = λ old. AreFoundFrom tells v (behind old w) lines end wish (log ++ old) later found in
       let Q : World → Type 0 = λ x. AreFoundFrom tells v (behind [] x) lines end wish (log ++ []) later found in
@@ -37,7 +37,7 @@ module _ (holds : Before → Type 0) (tells : Bool) (v : Volume) (w : World) (li
   performs sink status (may, plays, told) = let p = played plays in (p.0, p.1, p.2, (may, tells_so told))
     where
       tells_so : ((found : List ℕ) × ((b : Before) → holds b → AreFoundFrom tells v (behind b.log w) lines end wish (log ++ b.log) later found) × Says end wish found (reverse log) sink status) ⊎ Lacks sink status
-          → ((found : List ℕ) × AreFound tells v lines end wish log later found × Says end wish found (reverse log) sink status) ⊎ Lacks sink status
+          → ((found : List ℕ) × AreScrubsFound tells v lines end wish log later found × Says end wish found (reverse log) sink status) ⊎ Lacks sink status
       tells_so (inl (found, finds, says)) = inl (found, found_anew found finds, says)
       tells_so (inr lacks) = inr lacks
 
@@ -66,7 +66,7 @@ performs_as tells v lines Scrub end later lost log sink status anew p = p
 performs_as tells v lines First end later lost log sink status anew p = p
 performs_as tells v lines Again end later lost log sink status anew p = absurd (anew refl)
 
-pub told_as : (wish : Wish) (v : Volume) (lines : List Line) (lost : ℕ) (log : List Event) → ¬ (wish ≡ Again) → IsTold v lines lost log → IsToldAs wish v lines lost log
+pub told_as : (wish : Wish) (v : Volume) (lines : List Line) (lost : ℕ) (log : List Event) → ¬ (wish ≡ Again) → IsPlayReported v lines lost log → IsToldAs wish v lines lost log
 told_as Replay v lines lost log anew told = told
 told_as (Load seed) v lines lost log anew told = told
 told_as Scrub v lines lost log anew told = told

@@ -6,7 +6,7 @@ use Rattle.rz_script.specs.Scripts.{Script}
 use Rattle.rz_script_words.specs.declared.form.Form.{Form}
 use Rattle.rz_script.specs.declared.fault.ScriptError.{ScriptError}
 use Rattle.rz_request.specs.Input.{limit}
-use Rattle.rz_request.specs.Requests.{Reading, JudgesScript, ReadsScript, IsRead, is_large}
+use Rattle.rz_request.specs.Requests.{Reading, JudgesScript, ReadsScript, IsInputRead, is_large}
 use Rattle.rz_request.specs.declared.refusal.Refusal.TheVariants as refusals
 use Rattle.rz_request.specs.declared.refusal.Stop.{Stop}
 use Rattle.rz_request.specs.declared.refusal.Stop.TheVariants as stops
@@ -45,7 +45,7 @@ module _ (read : Result Script ScriptError) (needs : Script → ℕ) (disks : �
 module _ (form : Form) (source : Reading) (needs : Script → ℕ) (disks : ℕ) (s : Script) (whole : ¬ Rises source.old source.new) (text : List ℕ) (left : source.before ≡ Some text) (short : length text ≤ limit)
     (means : script form text ≡ Ok s) (small : is_large s ≡ false) (fits : disks ≡ needs s) where
   -- the text that was read is the one that was left
-  read-came : (result : Result Script Stop) → (t : List ℕ) × IsRead source t × JudgesScript (script form t) needs disks result → HasCome s result
+  read-came : (result : Result Script Stop) → (t : List ℕ) × IsInputRead source t × JudgesScript (script form t) needs disks result → HasCome s result
   read-came result h =
       let same = subst (λ (b : Option (List ℕ)). IfSome b (λ x. (x ≡ h.0) × (source.after ≡ Some []))) left h.1.0 in
       let is : script form h.0 ≡ Ok s = subst (λ (t : List ℕ). script form t ≡ Ok s) same.0 means in

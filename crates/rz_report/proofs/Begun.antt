@@ -9,11 +9,11 @@ use Rattle.rz_node_model.specs.States.{NodeState}
 use Rattle.rz_export_model.specs.Export.{Export as ExportState}
 use Rattle.rz_play.specs.World.{World, new_world, world_after}
 use Rattle.rz_play.specs.Faults.{is_missed, missed, misses}
-use Rattle.rz_play_laws.specs.Runs.{IsReached}
+use Rattle.rz_play_laws.specs.Runs.{IsWorldReached}
 use Rattle.rz_play.specs.Stops.{StopCause, TurnsSpent}
 use Rattle.rz_play.specs.Played.{IsPlayedFrom, IsStoppedFrom, IsBegunFrom}
 use Rattle.rz_player.specs.Behind.{Before, behind}
-use Rattle.rz_player.specs.Ends.{ComesTo, IsEnded, IsEndedOver}
+use Rattle.rz_player.specs.Ends.{ComesToWorld, IsEnded, IsEndedOver}
 use Rattle.rz_report.specs.Telling.{IsPlayOf}
 use Rattle.rz_report.specs.Told.{AreLossesTold}
 use Rattle.rz_player.specs.declared.lines.PlayEnd.{PlayEnd}
@@ -59,7 +59,7 @@ anew_play v first lines end lost log old none new played =
     subst R (append-nil log) (subst Q new (subst P none played))
 
 -- the lost messages of a play that came so far, over any disks
-reached : (tells : Bool) (v : Volume) (lines : List Line) (end : PlayEnd) (first last : World) → ComesTo v lines tells end first last → IsReached v lines tells first last
+reached : (tells : Bool) (v : Volume) (lines : List Line) (end : PlayEnd) (first last : World) → ComesToWorld v lines tells end first last → IsWorldReached v lines tells first last
 reached tells v lines Ended first last is = inl is.0
 reached tells v lines TooManyTurns first last is = inr (inl is)
 reached tells v lines NoMemory first last is = inr (inr is.0)
@@ -69,7 +69,7 @@ reached tells v lines JournalFull first last is = inr (inr is.0)
 missed-with : (x old : List Event) → missed (x ++ old) ≡ missed x + missed old
 missed-with x old = sum_by-append (λ y. cond (is_missed y) 1 0) x old
 
-pub losses_told : ((v : Volume) (lines : List Line) (tells : Bool) (nodes : ℕ → NodeState) (s : ExportState) (old : List Event) (last : World) → IsReached v lines tells (world_after nodes s old) last → missed last.log ≤ missed old + misses lines + last.lost)
+pub losses_told : ((v : Volume) (lines : List Line) (tells : Bool) (nodes : ℕ → NodeState) (s : ExportState) (old : List Event) (last : World) → IsWorldReached v lines tells (world_after nodes s old) last → missed last.log ≤ missed old + misses lines + last.lost)
     → AreLossesTold
 losses_told law tells v lines end lost nodes s old log over =
     let bound = law v lines tells nodes s old over.last (reached tells v lines end (world_after nodes s old) over.last over.played) in

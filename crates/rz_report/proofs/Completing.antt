@@ -14,7 +14,7 @@ use Rattle.rz_play.specs.Played.{StopsLinesOver}
 use Rattle.rz_player.specs.Ends.{IsEnded, IsEndedOver}
 use Rattle.rz_player.specs.declared.lines.PlayEnd.{PlayEnd}
 use Rattle.rz_player.specs.declared.lines.PlayEnd.TheVariants as ends
-use Rattle.rz_request.specs.Requests.{Asks, Reading, AsksFor, IsFor, Reads, disks_for, nodes_in, script_in}
+use Rattle.rz_request.specs.Requests.{Asks, Reading, AsksFor, IsRequestFor, Reads, disks_for, nodes_in, script_in}
 use Rattle.rz_request.specs.declared.refusal.Stop.{Stop}
 use Rattle.rz_request.specs.declared.refusal.Stop.TheVariants as stops
 use Rattle.rz_request.specs.declared.wishes.Request.{Request}
@@ -23,7 +23,7 @@ use Rattle.rz_request.specs.declared.wishes.Wish.TheVariants as wishes
 use Rattle.rz_report.specs.Output.{Sunk, Lacks}
 use Rattle.rz_report.specs.Telling.{Tells, Performs, PerformsAs, TellsOwn}
 use Rattle.rz_report.specs.Replays.{Faulted, Course, Unplayed, Unopened, Performed, HasJournal, MayEnd, Opens, Ensues}
-use Rattle.rz_report.specs.Clear.{Means, IsPlayable, IsFinished, IsFinishedAgain, IsComplete, IsCompleteAgain}
+use Rattle.rz_report.specs.Clear.{Means, IsPlayable, IsReplayFinished, IsFinishedAgain, ReplayCompletes, IsCompleteAgain}
 use Rattle.rz_report.proofs.Asked.{HasCome, judged, has-come}
 
 -- What is asked for.
@@ -33,7 +33,7 @@ module _ (words : Option Meaning) (source : Reading) (count : ℕ) (disks : Faul
   from-text wish playable (text, left, short, means) reads =
       has-come forms.Replay source (disks_for wish) count s playable.source_whole text left short means playable.small playable.fits (script_in result) reads
 
-  asked-for : (wish : Wish) → IsPlayable words source count disks course sink wish s → AsksFor (Some wish) words source count result → HasCome s (script_in result) × IsFor wish result
+  asked-for : (wish : Wish) → IsPlayable words source count disks course sink wish s → AsksFor (Some wish) words source count result → HasCome s (script_in result) × IsRequestFor wish result
   asked-for wishes.Replay playable asked = (from-text wishes.Replay playable playable.means asked.0, asked.1)
   asked-for wishes.Scrub playable asked = (from-text wishes.Scrub playable playable.means asked.0, asked.1)
   asked-for wishes.First playable asked = (from-text wishes.First playable playable.means asked.0, asked.1)
@@ -43,7 +43,7 @@ module _ (words : Option Meaning) (source : Reading) (count : ℕ) (disks : Faul
       (judged (Ok (workload seed)) (disks_for (wishes.Load seed)) count s is playable.small playable.fits (script_in result) asked.0, asked.1)
 
   -- it is the script, or memory was wanting
-  pub come : (wish : Wish) → IsPlayable words source count disks course sink wish s → Asks words source count result → HasCome s (script_in result) × IsFor wish result
+  pub come : (wish : Wish) → IsPlayable words source count disks course sink wish s → Asks words source count result → HasCome s (script_in result) × IsRequestFor wish result
   come wish playable asks = asked-for wish playable (subst (λ (w : Option Wish). AsksFor w words source count result) playable.wanted asks)
 
 -- What comes of it.
@@ -63,7 +63,7 @@ only-first wishes.Again anew has = absurd (anew refl)
 module _ (tells : Bool) (disks : Faulted) (lost : ℕ) (sink : Sunk) (status : ℕ) (h : List Event) (s : Script) (sink_whole : ¬ Rises sink.old sink.new) where
   -- of a request that came, what follows; or memory was wanting
   ensued : (Goal : Type 0) (wish : Wish) (course : Course) (result : Result Request Stop) → ((r : Request) → r.script ≡ s → r.wish ≡ wish → Opens tells course r disks lost sink status h → Goal ⊎ Lacks sink status)
-      → HasCome s (script_in result) → IsFor wish result → Ensues tells course result disks lost sink status h → Goal ⊎ Lacks sink status
+      → HasCome s (script_in result) → IsRequestFor wish result → Ensues tells course result disks lost sink status h → Goal ⊎ Lacks sink status
   ensued Goal wish course (Ok r) follows came for e = follows r came for e.0
   ensued Goal wish course (Err stops.NoMemory) follows came for e = inr e.0
   ensued Goal wish course (Err stops.Source) follows came for e = absurd came
@@ -84,7 +84,7 @@ module _ (tells : Bool) (disks : Faulted) (lost : ℕ) (sink : Sunk) (status : �
     kept-journal ends.JournalFull r script_is wish_is may is = cc
 
     told-end : (end : PlayEnd) (later : List Event) → ¬ (end ≡ ends.Journal) → ¬ (end ≡ ends.JournalFull) → (IsTrue tells → IsEnded s.volume (new_world s.volume) s.lines end lost h)
-        → IsEndedOver tells s.volume (new_world s.volume) s.lines end lost h → Tells tells s.volume s.lines end wish h later sink status → IsFinished tells wish s lost sink status h ⊎ Lacks sink status
+        → IsEndedOver tells s.volume (new_world s.volume) s.lines end lost h → Tells tells s.volume s.lines end wish h later sink status → IsReplayFinished tells wish s lost sink status h ⊎ Lacks sink status
     told-end ends.Ended later kept room ended over (may, inl (found, sought, inl took)) = inl (record {
       status_is = took.0;
       played = λ telling. (ended telling).0;
@@ -110,7 +110,7 @@ module _ (tells : Bool) (disks : Faulted) (lost : ℕ) (sink : Sunk) (status : �
     performed-as wishes.Again end later new p = absurd (new refl)
 
     followed : (course : Course) → (course ≡ Unplayed → (i : ℕ) → ¬ HasRisen (disks.old i) (disks.new i)) → ((later : List Event) → ¬ (course ≡ Performed ends.JournalFull later)) → (r : Request) → r.script ≡ s → r.wish ≡ wish
-        → Opens tells course r disks lost sink status h → IsFinished tells wish s lost sink status h ⊎ Lacks sink status
+        → Opens tells course r disks lost sink status h → IsReplayFinished tells wish s lost sink status h ⊎ Lacks sink status
     followed Unplayed formatted room r script_is wish_is (inl lacks) = inr lacks.0
     followed Unplayed formatted room r script_is wish_is (inr failed) = absurd (formatted refl failed.0 (has-risen (disks.old failed.0) (disks.new failed.0) failed.2))
     followed (Unopened index cause) formatted room r script_is wish_is unopened = absurd (anew (sym wish_is ∙ unopened.0))
@@ -150,11 +150,11 @@ module _ (tells : Bool) (disks : Faulted) (lost : ℕ) (sink : Sunk) (status : �
 
 -- The laws.
 
-pub complete : IsComplete
+pub complete : ReplayCompletes
 complete tells words source count disks lost sink status h course result asks ensues wish s clear =
     let p = clear.playable in
     let came = come words source count disks course sink s result wish p asks in
-    ensued tells disks lost sink status h s p.sink_whole (IsFinished tells wish s lost sink status h) wish course result
+    ensued tells disks lost sink status h s p.sink_whole (IsReplayFinished tells wish s lost sink status h) wish course result
     (followed tells disks lost sink status h s p.sink_whole wish clear.anew clear.turns clear.journal course p.formatted clear.room) came.0 came.1 ensues
 
 pub complete-again : IsCompleteAgain

@@ -9,7 +9,7 @@ use Rattle.rz_script.specs.declared.line.Line.{Line}
 use Rattle.rz_play.specs.World.{World}
 use Rattle.rz_play.specs.Played.{PlaysLinesOver}
 use Rattle.rz_player.specs.Behind.{Before, behind}
-use Rattle.rz_player.specs.Ends.{Carries, EndsBy}
+use Rattle.rz_player.specs.Ends.{StaysTrue, EndsBy}
 use Rattle.rz_player.specs.declared.lines.PlayEnd.{PlayEnd}
 use Rattle.rz_player.specs.declared.lines.PlayEnd.TheVariants.{Ended, TooManyTurns, NoMemory, Journal, JournalFull}
 use Rattle.rz_request.specs.declared.wishes.Wish.{Wish}
@@ -19,21 +19,21 @@ use Rattle.rz_events.specs.declared.nodes.FetchAnswer.{FetchAnswer}
 use Rattle.rz_events.specs.declared.nodes.FetchAnswer.TheVariants as fetch
 use Rattle.rz_scrub.specs.Records.{Records, no_records}
 use Rattle.rz_words.specs.Grid.{Grid}
-use Rattle.rz_scrub_report.specs.Asks.{AreAsked, AreGiven, IsAsked}
-use Rattle.rz_scrub_report.specs.Scrubs.{AreListed, AreTold, AreUnaltered, EachListed, IsScrubbed}
-use Rattle.rz_scrub_report.specs.Stores.{HasAsked, IsRead, State}
+use Rattle.rz_scrub_report.specs.Asks.{AreAsked, AreGiven, IsRecordAsked}
+use Rattle.rz_scrub_report.specs.Scrubs.{AreListed, AreFindingsTold, AreUnaltered, EachListed, IsScrubbed}
+use Rattle.rz_scrub_report.specs.Stores.{HasAsked, AreBinsRead, State}
 use Rattle.rz_report.specs.Output.{Lacks, Sunk}
 use Rattle.rz_report.specs.Telling.{IsPlayOf, PerformsBehind, Says}
-use Rattle.rz_report.specs.Scrubs.{AreFoundFrom, CarriesCounts, Finds, IsFoundIn, IsScrubbable, IsSought, BetweenTurns, Leaves, anything, seen_in}
+use Rattle.rz_report.specs.Scrubs.{AreFoundFrom, CarriesCounts, Finds, IsFoundIn, IsScrubbable, IsSought, BetweenTurns, LeavesStore, anything, seen_in}
 
 -- What was found with some knowledge of what disks give was found, whatever they give.
 
 module _ (layout : Layout) (gives : ℕ → Key → Held → List ℕ → List ℕ → Type 0) where
-  read_any : (n : ℕ) (key : Key) (given : FetchAnswer) (before room : List ℕ) → IsRead (anything n key) given before room
+  read_any : (n : ℕ) (key : Key) (given : FetchAnswer) (before room : List ℕ) → AreBinsRead (anything n key) given before room
   read_any n key (fetch.Held told) before room = tt
   read_any n key _ before room = tt
 
-  asked_any : (l : Listed) (position n : ℕ) (w next : State) (s s' : Records) → IsAsked gives l position n w next s s' → IsAsked anything l position n w next s s'
+  asked_any : (l : Listed) (position n : ℕ) (w next : State) (s s' : Records) → IsRecordAsked gives l position n w next s s' → IsRecordAsked anything l position n w next s s'
   asked_any l position n w next s s' a = record {
     given = a.given;
     before = a.before;
@@ -48,7 +48,7 @@ module _ (layout : Layout) (gives : ℕ → Key → Held → List ℕ → List �
   all_asked_any l position (n ∷ nodes) w next s s' a =
       (a.0, a.1, asked_any l position n w a.0 s a.1 a.2, all_asked_any l (position + 1) nodes a.0 next a.1 s' a.3)
 
-  all_told_any : (blocks : List Listed) (w : State) (text : List ℕ) (next : State) → AreTold layout gives blocks w text next → AreTold layout anything blocks w text next
+  all_told_any : (blocks : List Listed) (w : State) (text : List ℕ) (next : State) → AreFindingsTold layout gives blocks w text next → AreFindingsTold layout anything blocks w text next
   all_told_any [] w text next t = t
   all_told_any (l ∷ blocks) w text next t =
       let found = t.3 in
@@ -123,7 +123,7 @@ module _ {S : Type 0} (tells : Bool) (volume : S → Volume) (world : S → Worl
 -- it was found after the lines, behind each earlier log
 module _ (holds held_now : Before → Type 0) (tells : Bool) (v : Volume) (first : World) (lines : List Line) where
   after : (end : PlayEnd) (wish : Wish) (last : World) (later : List Event) (found : List ℕ)
-      → (end ≡ Ended → (b : Before) → holds b → PlaysLinesOver v lines tells (behind b.log first) (behind b.log last)) → (end ≡ Ended → Carries holds held_now)
+      → (end ≡ Ended → (b : Before) → holds b → PlaysLinesOver v lines tells (behind b.log first) (behind b.log last)) → (end ≡ Ended → StaysTrue holds held_now)
       → IsSought held_now tells v last end wish later found
       → (b : Before) → holds b → AreFoundFrom tells v (behind b.log first) lines end wish (last.log ++ b.log) later found
   after Ended Scrub last later found whole held sought b holding = (behind b.log last, whole refl b holding, refl, sought b (held refl b holding))
@@ -162,15 +162,15 @@ any-end journaled why JournalFull is = cc
 
 -- what is left of the stage
 leaves_so : {S : Type 0} (tells : Bool) (volume : S → Volume) (world : S → World) (journaled : S → Bool) (holds leaves : S → Before → Type 0) (counts : S → List Event → (ℕ → ℕ) → Type 0) (only_asked : S → S → Type 0)
-    (end : PlayEnd) (wish : Wish) (first played last : S) (IfFound : (List ℕ → Type 0) → Type 0) → Carries (holds first) (leaves played) → (end ≡ Ended → Carries (holds first) (holds played))
-    → (end ≡ TooManyTurns → Carries (holds first) (holds played)) → (f : Finds tells volume world journaled holds counts only_asked end wish played last IfFound) → Leaves world holds leaves counts only_asked end wish first last f.later
+    (end : PlayEnd) (wish : Wish) (first played last : S) (IfFound : (List ℕ → Type 0) → Type 0) → StaysTrue (holds first) (leaves played) → (end ≡ Ended → StaysTrue (holds first) (holds played))
+    → (end ≡ TooManyTurns → StaysTrue (holds first) (holds played)) → (f : Finds tells volume world journaled holds counts only_asked end wish played last IfFound) → LeavesStore world holds leaves counts only_asked end wish first last f.later
 leaves_so {S} tells volume world journaled holds leaves counts only_asked end wish first played last IfFound left held stopped f = so f.left
   where
-    so : ((f.later ≡ []) × (last ≡ played)) ⊎ ((end ≡ Ended) × (wish ≡ Scrub) × only_asked played last × CarriesCounts (holds played) (counts last (f.later ++ (world played).log))) → Leaves world holds leaves counts only_asked end wish first last f.later
+    so : ((f.later ≡ []) × (last ≡ played)) ⊎ ((end ≡ Ended) × (wish ≡ Scrub) × only_asked played last × CarriesCounts (holds played) (counts last (f.later ++ (world played).log))) → LeavesStore world holds leaves counts only_asked end wish first last f.later
     so (inl (none, same)) =
-        let P : S → Type 0 = λ s. Carries (holds first) (leaves s) in
-        let Q : S → Type 0 = λ s. BetweenTurns end (Carries (holds first) (holds s)) in
-        inl (none, subst P (sym same) left, subst Q (sym same) (between end (Carries (holds first) (holds played)) held stopped))
+        let P : S → Type 0 = λ s. StaysTrue (holds first) (leaves s) in
+        let Q : S → Type 0 = λ s. BetweenTurns end (StaysTrue (holds first) (holds s)) in
+        inl (none, subst P (sym same) left, subst Q (sym same) (between end (StaysTrue (holds first) (holds played)) held stopped))
     so (inr (ended, scrubs, asked, counted)) =
         let P : List Event → Type 0 = λ h. CarriesCounts (holds first) (counts last (f.later ++ h)) in
         inr (played, scrubs, held ended, asked, subst P (sym f.log_is) (λ b holding. counted b (held ended b holding)))
@@ -187,12 +187,12 @@ module _ {S : Type 0} (tells : Bool) (volume : S → Volume) (world : S → Worl
 
   pub performed_so : ((b : Before) → holds first b → IsPlayOf tells v (behind b.log (world first)) lines end lost ((world played).log ++ b.log) (world played).log)
       → (end ≡ Ended → (b : Before) → holds first b → PlaysLinesOver v lines tells (behind b.log (world first)) (behind b.log (world played)))
-      → volume played ≡ v → EndsBy was (cut_off played) end → Carries (holds first) (leaves played)
-      → (end ≡ Ended → Carries (holds first) (holds played)) → (end ≡ TooManyTurns → Carries (holds first) (holds played))
+      → volume played ≡ v → EndsBy was (cut_off played) end → StaysTrue (holds first) (leaves played)
+      → (end ≡ Ended → StaysTrue (holds first) (holds played)) → (end ≡ TooManyTurns → StaysTrue (holds first) (holds played))
       → (IfFound : (List ℕ → Type 0) → Type 0) (f : Finds tells volume world journaled holds counts only_asked end wish played last IfFound) (sink : Sunk) (status : ℕ)
       → ((found : List ℕ) × IsSought (holds played) tells (volume played) (world played) end wish f.later found × Says end wish found (reverse (world last).log) sink status)
       ⊎ Lacks sink status
-      → (e : PlayEnd) × (later : List Event) × Leaves world holds leaves counts only_asked e wish first last later × EndsBy was (cut_off last) e
+      → (e : PlayEnd) × (later : List Event) × LeavesStore world holds leaves counts only_asked e wish first last later × EndsBy was (cut_off last) e
       × PerformsBehind (holds first) tells v (world first) lines wish e later lost (world last).log sink status
   performed_so plays whole is_of cut left held stopped IfFound f sink status told =
       let P : List Event → Type 0 = λ h. PerformsBehind (holds first) tells v (world first) lines wish end f.later lost h sink status in

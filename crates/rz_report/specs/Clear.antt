@@ -24,7 +24,7 @@ use Rattle.rz_request.specs.declared.wishes.Wish.{Wish}
 use Rattle.rz_request.specs.declared.wishes.Wish.TheVariants as wishes
 use Rattle.rz_report.specs.Output.{Sunk, Lacks}
 use Rattle.rz_report.specs.Replays.{Faulted, Course, Unplayed, Unopened, Performed, Ensues}
-use Rattle.rz_report.specs.Scrubs.{AreFound}
+use Rattle.rz_report.specs.Scrubs.{AreScrubsFound}
 use Rattle.rz_report.specs.Telling.{text_told}
 
 -- what is wished for is this script: it is the workload of the seed, or the text of the source, which is in the grammar and within the
@@ -49,7 +49,7 @@ pub record IsPlayable (words : Option Meaning) (source : Reading) (count : ℕ) 
 -- Nothing stands in the way of such a play: none of the script on a new volume, over disks that tell their texts or that do not, calls
 -- for a turn too many. Where there is a journal, its disk, which is behind those of the nodes, counted no fault, and no call found it
 -- full.
-pub record IsClear (tells : Bool) (words : Option Meaning) (source : Reading) (count : ℕ) (disks : Faulted) (course : Course) (sink : Sunk) (wish : Wish) (s : Script) : Type 0 where
+pub record IsReplayClear (tells : Bool) (words : Option Meaning) (source : Reading) (count : ℕ) (disks : Faulted) (course : Course) (sink : Sunk) (wish : Wish) (s : Script) : Type 0 where
   pub playable : IsPlayable words source count disks course sink wish s
   pub anew : wish ≢ wishes.Again
   pub turns : (last : World) → ¬ StopsLinesOver s.volume TurnsSpent s.lines tells (new_world s.volume) last
@@ -58,21 +58,21 @@ pub record IsClear (tells : Bool) (words : Option Meaning) (source : Reading) (c
 
 -- The status is 0. The script was played to its end: over disks that tell their texts the log is that of its play, over others of one
 -- in which a start and a read may find anything. The sink took all that is to be told of it.
-pub record IsFinished (tells : Bool) (wish : Wish) (s : Script) (lost : ℕ) (sink : Sunk) (status : ℕ) (h : List Event) : Type 0 where
+pub record IsReplayFinished (tells : Bool) (wish : Wish) (s : Script) (lost : ℕ) (sink : Sunk) (status : ℕ) (h : List Event) : Type 0 where
   pub status_is : status ≡ 0
   pub played : IsTrue tells → IsPlayed s.volume s.lines h
   pub over : IsEndedOver tells s.volume (new_world s.volume) s.lines Ended lost h
   pub later : List Event
   pub found : List ℕ
-  pub sought : AreFound tells s.volume s.lines Ended wish h later found
+  pub sought : AreScrubsFound tells s.volume s.lines Ended wish h later found
   pub taken : Appends sink.before sink.after (text_told wish found (reverse h))
 
 -- Where nothing stands in its way, a replay that begins anew plays the script to its end, or memory is wanting: the answer to what is
 -- asked for, and what comes of it, leave nothing else.
-abbrev pub IsComplete : Type 0
-IsComplete = (tells : Bool) (words : Option Meaning) (source : Reading) (count : ℕ) (disks : Faulted) (lost : ℕ) (sink : Sunk) (status : ℕ) (h : List Event) (course : Course) (r : Result Request Stop)
+abbrev pub ReplayCompletes : Type 0
+ReplayCompletes = (tells : Bool) (words : Option Meaning) (source : Reading) (count : ℕ) (disks : Faulted) (lost : ℕ) (sink : Sunk) (status : ℕ) (h : List Event) (course : Course) (r : Result Request Stop)
     → Asks words source count r → Ensues tells course r disks lost sink status h
-    → (wish : Wish) (s : Script) → IsClear tells words source count disks course sink wish s → IsFinished tells wish s lost sink status h ⊎ Lacks sink status
+    → (wish : Wish) (s : Script) → IsReplayClear tells words source count disks course sink wish s → IsReplayFinished tells wish s lost sink status h ⊎ Lacks sink status
 
 -- A play after earlier runs.
 

@@ -14,8 +14,8 @@ use Rattle.rz_request.specs.declared.wishes.Request.{Request}
 use Rattle.rz_request.specs.declared.wishes.Wish.{Wish}
 use Rattle.rz_request.specs.declared.wishes.Wish.TheVariants.{First, Again}
 use Rattle.rz_report.specs.Output.{Sunk, Lacks}
-use Rattle.rz_report.specs.Telling.{PerformsAs, Refuses, Stops}
-use Rattle.rz_report.specs.Told.{IsTold}
+use Rattle.rz_report.specs.Telling.{PerformsAs, TellsRefusal, Stops}
+use Rattle.rz_report.specs.Told.{IsPlayReported}
 
 -- the faults of each disk, by its place, before and after
 pub record Faulted : Type 0 where
@@ -48,21 +48,21 @@ MayEnd _ r disks = Unit {0}
 abbrev pub Opens : Bool → Course → Request → Faulted → (lost : ℕ) → Sunk → ℕ → List Event → Type 0
 Opens tells Unplayed r disks lost sink status h =
     (Lacks sink status × (h ≡ []))
-    ⊎ ((index : ℕ) × (r.wish ≢ Again) × Rises (disks.old index) (disks.new index) × Refuses (refusals.Disk index) sink status × (h ≡ []))
-Opens tells (Unopened index cause) r disks lost sink status h = (r.wish ≡ Again) × Refuses (refusals.Open index cause) sink status × (h ≡ [])
+    ⊎ ((index : ℕ) × (r.wish ≢ Again) × Rises (disks.old index) (disks.new index) × TellsRefusal (refusals.Disk index) sink status × (h ≡ []))
+Opens tells (Unopened index cause) r disks lost sink status h = (r.wish ≡ Again) × TellsRefusal (refusals.Open index cause) sink status × (h ≡ [])
 Opens tells (Performed end later) r disks lost sink status h = MayEnd end r disks × PerformsAs tells r.script.volume r.script.lines r.wish end later lost h sink status
 
 -- the log of a play that begins anew is true; that of one after earlier runs is, behind the log of those
 abbrev pub IsToldAs : Wish → Volume → List Line → (lost : ℕ) → List Event → Type 0
 IsToldAs Again v lines lost h = Unit {0}
-IsToldAs wish v lines lost h = IsTold v lines lost h
+IsToldAs wish v lines lost h = IsPlayReported v lines lost h
 
 -- A request is played. Over disks that tell their texts the log is true.
-abbrev pub Follows : Bool → Course → Request → Faulted → (lost : ℕ) → Sunk → ℕ → List Event → Type 0
-Follows tells course r disks lost sink status h =
+abbrev pub FollowsRequest : Bool → Course → Request → Faulted → (lost : ℕ) → Sunk → ℕ → List Event → Type 0
+FollowsRequest tells course r disks lost sink status h =
     Opens tells course r disks lost sink status h × (IsTrue tells → IsToldAs r.wish r.script.volume r.script.lines lost h)
 
 -- there is nothing to play, or a request that is played
 abbrev pub Ensues : Bool → Course → Result Request Stop → Faulted → (lost : ℕ) → Sunk → ℕ → List Event → Type 0
-Ensues tells course (Ok r) disks lost sink status h = Follows tells course r disks lost sink status h
+Ensues tells course (Ok r) disks lost sink status h = FollowsRequest tells course r disks lost sink status h
 Ensues tells course (Err stop) disks lost sink status h = Stops stop sink status × (h ≡ []) × (course ≡ Unplayed)

@@ -9,7 +9,7 @@ use Rattle.rz_script.specs.declared.line.Line.{Line}
 use Rattle.rz_play.specs.World.{World, new_world}
 use Rattle.rz_play.specs.Played.{PlaysLinesOver}
 use Rattle.rz_player.specs.Behind.{Before, behind}
-use Rattle.rz_player.specs.Ends.{Carries}
+use Rattle.rz_player.specs.Ends.{StaysTrue}
 use Rattle.rz_player.specs.declared.lines.PlayEnd.{PlayEnd}
 use Rattle.rz_player.specs.declared.lines.PlayEnd.TheVariants.{Ended, TooManyTurns}
 use Rattle.rz_words.specs.Grid.{Grid}
@@ -37,9 +37,9 @@ pub record IsFoundIn (tells : Bool) (v : Volume) (last : World) (later : List Ev
   pub unaltered : IsTrue tells → (blocks : List Listed) × AreListed last.export None blocks × AreUnaltered v.layout blocks found
 
 -- only a scrub asks for records, after a whole play
-abbrev pub MayAsk : PlayEnd → Wish → List Event → Type 0
-MayAsk Ended Scrub later = AreAsks later
-MayAsk _ _ later = later ≡ []
+abbrev pub ScrubMayAsk : PlayEnd → Wish → List Event → Type 0
+ScrubMayAsk Ended Scrub later = AreAsks later
+ScrubMayAsk _ _ later = later ≡ []
 
 -- and it alone finds something, behind each earlier log that these hold for
 abbrev pub IsSought : (Before → Type 0) → Bool → Volume → World → PlayEnd → Wish → List Event → List ℕ → Type 0
@@ -53,8 +53,8 @@ AreFoundFrom tells v first lines Ended Scrub h later found =
 AreFoundFrom tells v first lines _ _ h later found = found ≡ []
 
 -- and so it is in a play that begins anew
-abbrev pub AreFound : Bool → Volume → List Line → PlayEnd → Wish → List Event → List Event → List ℕ → Type 0
-AreFound tells v lines end wish h later found = AreFoundFrom tells v (new_world v) lines end wish h later found
+abbrev pub AreScrubsFound : Bool → Volume → List Line → PlayEnd → Wish → List Event → List Event → List ℕ → Type 0
+AreScrubsFound tells v lines end wish h later found = AreFoundFrom tells v (new_world v) lines end wish h later found
 
 -- what was so with what there was before the first line is so of the counts of faults alone
 abbrev pub CarriesCounts : (Before → Type 0) → ((ℕ → ℕ) → Type 0) → Type 0
@@ -84,16 +84,16 @@ BetweenTurns cut_off so = Unit {0}
 
 -- Where a performance ended, disks and log are as a play leaves them; or, in a scrub and after a play to its end, these records were
 -- asked for, and the faults go with those asks after the log.
-abbrev pub Leaves : {S : Type 0} → (S → World) → (S → Before → Type 0) → (S → Before → Type 0) → (S → List Event → (ℕ → ℕ) → Type 0) → (S → S → Type 0) → PlayEnd → Wish → S → S → List Event → Type 0
-Leaves {S} world holds leaves counts only_asked end wish old new later =
-    ((later ≡ []) × Carries (holds old) (leaves new) × BetweenTurns end (Carries (holds old) (holds new)))
-    ⊎ ((played : S) × (wish ≡ Scrub) × Carries (holds old) (holds played) × only_asked played new × CarriesCounts (holds old) (counts new (later ++ (world new).log)))
+abbrev pub LeavesStore : {S : Type 0} → (S → World) → (S → Before → Type 0) → (S → Before → Type 0) → (S → List Event → (ℕ → ℕ) → Type 0) → (S → S → Type 0) → PlayEnd → Wish → S → S → List Event → Type 0
+LeavesStore {S} world holds leaves counts only_asked end wish old new later =
+    ((later ≡ []) × StaysTrue (holds old) (leaves new) × BetweenTurns end (StaysTrue (holds old) (holds new)))
+    ⊎ ((played : S) × (wish ≡ Scrub) × StaysTrue (holds old) (holds played) × only_asked played new × CarriesCounts (holds old) (counts new (later ++ (world new).log)))
 
 -- What came of a stage whose play ended so, and of the lines where there are some.
 pub record Finds {S : Type 0} (tells : Bool) (volume : S → Volume) (world : S → World) (journaled : S → Bool) (holds : S → Before → Type 0) (counts : S → List Event → (ℕ → ℕ) → Type 0) (only_asked : S → S → Type 0)
     (end : PlayEnd) (wish : Wish) (old new : S) (IfFound : (List ℕ → Type 0) → Type 0) : Type 0 where
   pub later : List Event
-  pub may : MayAsk end wish later
+  pub may : ScrubMayAsk end wish later
   pub volume_is : volume new ≡ volume old
   pub log_is : (world new).log ≡ (world old).log
   pub journal_is : journaled new ≡ journaled old

@@ -23,7 +23,7 @@ use Rattle.rz_request.specs.declared.refusal.Stop.TheVariants as stops
 use Rattle.rz_request.specs.declared.wishes.Wish.{Wish}
 use Rattle.rz_request.specs.declared.wishes.Wish.TheVariants.{Replay, Load, Scrub, First, Again}
 use Rattle.rz_report.specs.Output.{Sunk, Ends, Lacks}
-use Rattle.rz_report.specs.Scrubs.{AreFound, AreFoundFrom, MayAsk}
+use Rattle.rz_report.specs.Scrubs.{AreScrubsFound, AreFoundFrom, ScrubMayAsk}
 
 -- what is printed of the log of a whole play, the oldest event first: its text, or the line of the workload, or its text and the lines
 -- of a scrub
@@ -53,8 +53,8 @@ Says NoMemory wish found log sink status = ⊥
 -- whole play, and it alone has asked for records.
 abbrev pub Tells : Bool → Volume → List Line → PlayEnd → Wish → List Event → (later : List Event) → Sunk → ℕ → Type 0
 Tells tells v lines end wish h later sink status =
-    MayAsk end wish later
-    × (((found : List ℕ) × AreFound tells v lines end wish h later found × Says end wish found (reverse h) sink status) ⊎ Lacks sink status)
+    ScrubMayAsk end wish later
+    × (((found : List ℕ) × AreScrubsFound tells v lines end wish h later found × Says end wish found (reverse h) sink status) ⊎ Lacks sink status)
 
 -- A script was played to this end, with so many messages lost by the link, and told with its log, the newest event first. Over
 -- disks that tell their texts the log is that of the script's play; over others it is that of a play in which a start and a read may
@@ -77,7 +77,7 @@ IsPlayAgain tells v lines end lost h = tells ≡ false → (nodes : ℕ → Node
 -- a script that goes on after earlier runs was played to this end, and told with the log of this play
 abbrev pub TellsOwn : PlayEnd → Wish → (later : List Event) → List Event → Sunk → ℕ → Type 0
 TellsOwn end wish later h sink status =
-    MayAsk end wish later × (((found : List ℕ) × Says end wish found (reverse h) sink status) ⊎ Lacks sink status)
+    ScrubMayAsk end wish later × (((found : List ℕ) × Says end wish found (reverse h) sink status) ⊎ Lacks sink status)
 
 -- a play that begins anew is performed; of one after earlier runs this says what is told of it
 abbrev pub PerformsAs : Bool → Volume → List Line → Wish → PlayEnd → (later : List Event) → (lost : ℕ) → List Event → Sunk → ℕ → Type 0
@@ -88,23 +88,23 @@ PerformsAs tells v lines wish end later lost h sink status = Performs tells v li
 -- earlier log that these hold for, and so do the lines of a scrub.
 abbrev pub PerformsBehind : (holds : Before → Type 0) → Bool → Volume → World → List Line → Wish → PlayEnd → (later : List Event) → (lost : ℕ) → List Event → Sunk → ℕ → Type 0
 PerformsBehind holds tells v w lines wish end later lost log sink status =
-    MayAsk end wish later
+    ScrubMayAsk end wish later
     × ((b : Before) → holds b → IsPlayOf tells v (behind b.log w) lines end lost (log ++ b.log) log)
     × (((found : List ℕ) × ((b : Before) → holds b → AreFoundFrom tells v (behind b.log w) lines end wish (log ++ b.log) later found)
     × Says end wish found (reverse log) sink status) ⊎ Lacks sink status)
 
 -- the line of a refusal was to be written with its status, or there was no memory
-abbrev pub Refuses : Refusal → Sunk → ℕ → Type 0
-Refuses refusal sink status = Ends sink (status_of refusal) (line_of refusal) status ⊎ Lacks sink status
+abbrev pub TellsRefusal : Refusal → Sunk → ℕ → Type 0
+TellsRefusal refusal sink status = Ends sink (status_of refusal) (line_of refusal) status ⊎ Lacks sink status
 
 -- the disks are not formatted: memory is wanting, or the line of the disk that failed was to be written
-abbrev pub Fails : DriverFault → Sunk → ℕ → Type 0
-Fails faults.NoMemory sink status = Lacks sink status
-Fails (faults.Disk index) sink status = Refuses (refusals.Disk index) sink status
+abbrev pub TellsUnformatted : DriverFault → Sunk → ℕ → Type 0
+TellsUnformatted faults.NoMemory sink status = Lacks sink status
+TellsUnformatted (faults.Disk index) sink status = TellsRefusal (refusals.Disk index) sink status
 
 -- there is nothing to play: memory is wanting, or the source failed and nothing is written, or the line of the refusal was to be
 -- written
 abbrev pub Stops : Stop → Sunk → ℕ → Type 0
 Stops stops.NoMemory sink status = Lacks sink status
 Stops stops.Source sink status = (status ≡ 4) × (sink.after ≡ sink.before)
-Stops (stops.Refused refusal) sink status = Refuses refusal sink status
+Stops (stops.Refused refusal) sink status = TellsRefusal refusal sink status

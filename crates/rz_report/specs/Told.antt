@@ -21,7 +21,7 @@ use Rattle.rz_player.specs.declared.lines.PlayEnd.{PlayEnd}
 -- Each read gives one write's text, no older than what was acknowledged before it began, and answers unless too many nodes did
 -- not. Each write that ends was acknowledged or says why not. Each finished rebuild is whole. No update of a guarded block is lost,
 -- and no view sees one in part. Each lost message was lost by a line or by the link.
-pub record IsTold (v : Volume) (lines : List Line) (lost : ℕ) (h : List Event) : Type 0 where
+pub record IsPlayReported (v : Volume) (lines : List Line) (lost : ℕ) (h : List Event) : Type 0 where
   pub legal : IsLegal v h
   pub sound : IsSound v h
   pub answering : IsAnswering v h
@@ -32,9 +32,9 @@ pub record IsTold (v : Volume) (lines : List Line) (lost : ℕ) (h : List Event)
   pub losses : missed h ≤ misses lines + lost
 
 -- so it is of each script, however its play ended
-abbrev pub AreTold : Type 0
-AreTold = (v : Volume) (lines : List Line) → IsScript v lines
-    → (end : PlayEnd) (lost : ℕ) (h : List Event) → IsEnded v (new_world v) lines end lost h → IsTold v lines lost h
+abbrev pub ArePlaysReported : Type 0
+ArePlaysReported = (v : Volume) (lines : List Line) → IsScript v lines
+    → (end : PlayEnd) (lost : ℕ) (h : List Event) → IsEnded v (new_world v) lines end lost h → IsPlayReported v lines lost h
 
 -- a play from any world on has begun, however it ended
 abbrev pub AreBegun : Type 0

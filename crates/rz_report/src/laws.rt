@@ -1,12 +1,12 @@
 //! Laws without code: what the log of a performance says is true, and when a replay comes to its end.
 
-ghost use Rattle.rz_report.specs.Clear.{IsComplete, IsCompleteAgain};
-ghost use Rattle.rz_report.specs.Told.{AreBegun, AreLossesTold, AreTold};
+ghost use Rattle.rz_report.specs.Clear.{ReplayCompletes, IsCompleteAgain};
+ghost use Rattle.rz_report.specs.Told.{AreBegun, AreLossesTold, ArePlaysReported};
 
 /// What the log of a script's play says is true, however the play ended: what is proved of each play that
 /// has begun holds of one that stopped or came to its end.
 pub(crate) fn true_logs()
-    ensures { AreTold }
+    ensures { ArePlaysReported }
 {
     rz_play_laws::ended();
     rz_play_laws::stopped();
@@ -40,7 +40,7 @@ pub fn begins()
 /// a script within the limits, there is a disk for each node, no turn too many is called for, and nothing
 /// outside failed. Want of memory is the one other answer. Over disks that do not tell their texts it is so too.
 pub fn completes()
-    ensures { IsComplete }
+    ensures { ReplayCompletes }
 {}
 
 /// So does one that goes on after earlier runs, where all disks open, and neither a turn too many nor the

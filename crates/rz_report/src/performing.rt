@@ -9,9 +9,9 @@ ghost use Rattle.rz_player.specs.Behind.{Before};
 ghost use Rattle.rz_player.specs.Ends.{EndsBy};
 ghost use Rattle.rz_player.specs.declared.lines.PlayEnd.{PlayEnd};
 ghost use Rattle.rz_play.specs.World.{new_world, world_after};
-ghost use Rattle.rz_report.specs.Scrubs.{IsScrubbable, Leaves};
+ghost use Rattle.rz_report.specs.Scrubs.{IsScrubbable, LeavesStore};
 ghost use Rattle.rz_report.specs.Telling.{PerformsBehind};
-ghost use Rattle.rz_report.specs.Told.{IsTold};
+ghost use Rattle.rz_report.specs.Told.{IsPlayReported};
 
 use crate::laws::{told_losses, true_logs};
 use crate::scrubbing::find;
@@ -43,10 +43,10 @@ pub fn perform<S: LoggedStage + ScrubbedStore, L: Link, O: Sink>(
     requires stage { IsScrubbable S.tells S.volume S.world S.journaled S.is_ready S.holds S.described S.state S.is_open S.gives S.counts S.only_asked }
     ensures volume { S.volume stage.new ≡ S.volume stage.old }
     ensures journal { S.journaled stage.new ≡ S.journaled stage.old }
-    ensures performed { (end : PlayEnd) × (later : List Event) × Leaves S.world S.holds S.leaves S.counts S.only_asked end wish stage.old stage.new later
+    ensures performed { (end : PlayEnd) × (later : List Event) × LeavesStore S.world S.holds S.leaves S.counts S.only_asked end wish stage.old stage.new later
         × EndsBy (S.journaled stage.old) (S.cut_off stage.new) end
         × PerformsBehind (S.holds stage.old) S.tells script.now.volume (S.world stage.old) script.now.lines wish end later (L.lost link.new - L.lost link.old) (S.world stage.new).log (record { before = O.taken output.old; after = O.taken output.new; old = O.faults output.old; new = O.faults output.new }) result }
-    ensures told { (b : Before) → S.holds stage.old b → b.log ≡ [] → S.world stage.old ≡ new_world script.now.volume → IsTrue S.tells → IsTold script.now.volume script.now.lines (L.lost link.new - L.lost link.old) (S.world stage.new).log }
+    ensures told { (b : Before) → S.holds stage.old b → b.log ≡ [] → S.world stage.old ≡ new_world script.now.volume → IsTrue S.tells → IsPlayReported script.now.volume script.now.lines (L.lost link.new - L.lost link.old) (S.world stage.new).log }
 {
     true_logs();
     told_losses();

@@ -2,7 +2,7 @@
 
 ghost use Rattle.std.specs.Prelude.{◌≡◌, ◌⊎◌, IfOk};
 ghost use Rattle.rz_report.specs.Output.{Lacks, Sunk};
-ghost use Rattle.rz_report.specs.Telling.{Fails, Refuses, Says, SaysSoFar, Stops, text_so_far, text_told};
+ghost use Rattle.rz_report.specs.Telling.{TellsUnformatted, TellsRefusal, Says, SaysSoFar, Stops, text_so_far, text_told};
 
 use crate::output::finish;
 use crate::summary;
@@ -74,7 +74,7 @@ pub(crate) fn tell<O: Sink>(
 
 /// Writes the line of a refusal, and gives the status.
 pub fn refuse<O: Sink>(alloc: Global, refusal: &Refusal, output: &mut O) -> u8
-    ensures { Refuses refusal.now (record { before = O.taken output.old; after = O.taken output.new; old = O.faults output.old; new = O.faults output.new }) result }
+    ensures { TellsRefusal refusal.now (record { before = O.taken output.old; after = O.taken output.new; old = O.faults output.old; new = O.faults output.new }) result }
 {
     match refusal.line(alloc) {
         Ok(line) => finish(output, refusal.status(), &line),
@@ -84,7 +84,7 @@ pub fn refuse<O: Sink>(alloc: Global, refusal: &Refusal, output: &mut O) -> u8
 
 /// Writes why the disks were not formatted, and gives the status.
 pub fn refuse_disks<O: Sink>(alloc: Global, fault: DriverFault, output: &mut O) -> u8
-    ensures { Fails fault (record { before = O.taken output.old; after = O.taken output.new; old = O.faults output.old; new = O.faults output.new }) result }
+    ensures { TellsUnformatted fault (record { before = O.taken output.old; after = O.taken output.new; old = O.faults output.old; new = O.faults output.new }) result }
 {
     match fault {
         DriverFault::NoMemory => Status::NO_MEMORY,

@@ -7,10 +7,10 @@ use Rattle.rz_script.specs.declared.fault.ScriptError.{ScriptError}
 use Rattle.rz_request.specs.declared.refusal.Refusal.TheVariants as refusals
 use Rattle.rz_request.specs.declared.refusal.Stop.{Stop}
 use Rattle.rz_request.specs.declared.refusal.Stop.TheVariants as stops
-use Rattle.rz_request.specs.Requests.{HasScript, IsRead, JudgesScript, Reading, ReadsScript}
+use Rattle.rz_request.specs.Requests.{HasScript, IsInputRead, JudgesScript, Reading, ReadsScript}
 
 module _ (form : Form) (source : Reading) (needs : Script → ℕ) (disks : ℕ) (s : Script) (has : HasScript form source (Ok s)) where
-  all : (r : Result Script Stop) → JudgesScript (Ok s) needs disks r → (text : List ℕ) × IsRead source text × JudgesScript (script form text) needs disks r
+  all : (r : Result Script Stop) → JudgesScript (Ok s) needs disks r → (text : List ℕ) × IsInputRead source text × JudgesScript (script form text) needs disks r
   all r judged = (has.0, has.1, subst (λ (x : Result Script ScriptError). JudgesScript x needs disks r) (sym has.2) judged)
 
   pub reads_script : (r : Result Script Stop) → JudgesScript (Ok s) needs disks r → ReadsScript form source needs disks r

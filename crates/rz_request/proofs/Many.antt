@@ -2,7 +2,7 @@
 use Rattle.std.proofs.Common.{◌≡◌, ◌<◌, ℕ, List, [], ◌∷◌, None, length, refl, arith}
 use Rattle.rz_request.specs.declared.command.Command.{Command}
 use Rattle.rz_request.specs.Items.{Text}
-use Rattle.rz_request.specs.Line.{alone, disks_of, folder_of, number_of}
+use Rattle.rz_request.specs.Line.{alone, disks_of, folder_of, number_stated}
 
 pub disks_many : (texts : List Text) → 1 < length texts → None ≡ disks_of texts
 disks_many [] l = absurd (omega arith)
@@ -14,7 +14,7 @@ folder_many [] l = absurd (omega arith)
 folder_many (t ∷ []) l = absurd (omega arith)
 folder_many (t ∷ u ∷ more) l = refl
 
-pub number_many : (low high : ℕ) (texts : List Text) → 1 < length texts → None ≡ number_of low high texts
+pub number_many : (low high : ℕ) (texts : List Text) → 1 < length texts → None ≡ number_stated low high texts
 number_many low high [] l = absurd (omega arith)
 number_many low high (t ∷ []) l = absurd (omega arith)
 number_many low high (t ∷ u ∷ more) l = refl

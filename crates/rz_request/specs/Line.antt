@@ -25,12 +25,12 @@ abbrev pub alone : Command → List Text → Option Command
 alone command [] = Some command
 alone command (word ∷ words) = None
 
-abbrev pub number_of : ℕ → ℕ → List Text → Option ℕ
-number_of low high (word ∷ []) = number_in low high word
-number_of low high _ = None
+abbrev pub number_stated : ℕ → ℕ → List Text → Option ℕ
+number_stated low high (word ∷ []) = number_in low high word
+number_stated low high _ = None
 
 abbrev pub numbered : (ℕ → Command) → ℕ → ℕ → List Text → Option Command
-numbered command low high plain = option_map command (number_of low high plain)
+numbered command low high plain = option_map command (number_stated low high plain)
 
 abbrev pub command_of : Text → List Text → Option Command
 command_of name plain =

@@ -11,7 +11,7 @@ use Rattle.rz_script_words.specs.declared.form.Form.TheVariants as forms
 use Rattle.rz_script.specs.declared.fault.ScriptError.{ScriptError}
 use Rattle.rz_script.specs.declared.fault.ScriptError.TheVariants as errors
 use Rattle.rz_request.specs.Input.{limit}
-use Rattle.rz_request.specs.Requests.{IsRead, Reading}
+use Rattle.rz_request.specs.Requests.{IsInputRead, Reading}
 use Rattle.rz_request.specs.declared.old.OldNode.{OldNode}
 use Rattle.rz_request.specs.declared.refusal.Refusal.TheVariants as refusals
 use Rattle.rz_request.specs.declared.refusal.Stop.{Stop}
@@ -50,4 +50,4 @@ abbrev pub ReadsNode : Reading → ℕ → ℕ → Result OldNode Stop → Type 
 ReadsNode source sid disks (Err stops.Source) = Rises source.old source.new
 ReadsNode source sid disks (Err stops.NoMemory) = Unit {0}
 ReadsNode source sid disks (Err (stops.Refused refusals.Long)) = IfSome source.before (λ left. limit < length left)
-ReadsNode source sid disks result = (text : List ℕ) × IsRead source text × JudgesNode (script forms.Migrate text) sid disks result
+ReadsNode source sid disks result = (text : List ℕ) × IsInputRead source text × JudgesNode (script forms.Migrate text) sid disks result

@@ -77,9 +77,9 @@ abbrev pub Judges : Result Script ScriptError → Wish → ℕ → Result Reques
 Judges read wish disks result = JudgesScript read (disks_for wish) disks (script_in result)
 
 -- a request is for this wish
-abbrev pub IsFor : Wish → Result Request Stop → Type 0
-IsFor wish (Ok r) = r.wish ≡ wish
-IsFor wish (Err e) = Unit {0}
+abbrev pub IsRequestFor : Wish → Result Request Stop → Type 0
+IsRequestFor wish (Ok r) = r.wish ≡ wish
+IsRequestFor wish (Err e) = Unit {0}
 
 -- a source before and after it was read: what it had left, where that is told, and its faults
 pub record Reading : Type 0 where
@@ -89,8 +89,8 @@ pub record Reading : Type 0 where
   pub new : ℕ
 
 -- this text was left, and all of it was read
-abbrev pub IsRead : Reading → List ℕ → Type 0
-IsRead source text = IfSome source.before (λ left. (left ≡ text) × (source.after ≡ Some [])) × (length text ≤ limit)
+abbrev pub IsInputRead : Reading → List ℕ → Type 0
+IsInputRead source text = IfSome source.before (λ left. (left ≡ text) × (source.after ≡ Some [])) × (length text ≤ limit)
 
 -- What a source comes to over so many disks: more was left than the limit; its faults rose; or all that was left is judged as a
 -- script of this form. Want of memory says nothing.
@@ -98,7 +98,7 @@ abbrev pub ReadsScript : Form → Reading → (Script → ℕ) → ℕ → Resul
 ReadsScript form source needs disks (Err stops.Source) = Rises source.old source.new
 ReadsScript form source needs disks (Err stops.NoMemory) = Unit {0}
 ReadsScript form source needs disks (Err (stops.Refused refusals.Long)) = IfSome source.before (λ left. limit < length left)
-ReadsScript form source needs disks result = (text : List ℕ) × IsRead source text × JudgesScript (script form text) needs disks result
+ReadsScript form source needs disks result = (text : List ℕ) × IsInputRead source text × JudgesScript (script form text) needs disks result
 
 -- the same of a request for a wish
 abbrev pub Reads : Reading → Wish → ℕ → Result Request Stop → Type 0
@@ -106,7 +106,7 @@ Reads source wish disks result = ReadsScript forms.Replay source (disks_for wish
 
 -- the script of all that was left of a source; or why there is none, whatever disks there are
 abbrev pub HasScript : Form → Reading → Result Script Stop → Type 0
-HasScript form source (Ok s) = (text : List ℕ) × IsRead source text × (script form text ≡ Ok s)
+HasScript form source (Ok s) = (text : List ℕ) × IsInputRead source text × (script form text ≡ Ok s)
 HasScript form source (Err e) = (needs : Script → ℕ) (disks : ℕ) → ReadsScript form source needs disks (Err e)
 
 -- the source is as it was
@@ -120,8 +120,8 @@ IsUsage m result = result ≡ Err (stops.Refused refusals.Usage)
 
 abbrev pub AsksFor : Option Wish → Option Meaning → Reading → ℕ → Result Request Stop → Type 0
 AsksFor None m source disks result = IsUsage m result × IsUnread source
-AsksFor (Some (wishes.Load seed)) m source disks result = Judges (Ok (workload seed)) (wishes.Load seed) disks result × IsFor (wishes.Load seed) result × IsUnread source
-AsksFor (Some wish) m source disks result = Reads source wish disks result × IsFor wish result
+AsksFor (Some (wishes.Load seed)) m source disks result = Judges (Ok (workload seed)) (wishes.Load seed) disks result × IsRequestFor (wishes.Load seed) result × IsUnread source
+AsksFor (Some wish) m source disks result = Reads source wish disks result × IsRequestFor wish result
 
 -- What words of this meaning ask for: words that wish for nothing are refused as usage, with the source unread; a load is of the
 -- workload of its seed, with the source unread; and the other plays are of the script of the source.

@@ -3,7 +3,7 @@
 ghost use Rattle.std.specs.Prelude.{◌≡◌, map, string_bytes};
 ghost use Rattle.rz_request.specs.Line.{meaning};
 ghost use Rattle.rz_generate.specs.Workload.{workload};
-ghost use Rattle.rz_request.specs.Requests.{Asks, IsFor, IsWished, Judges, Reads, disks_for as needed_for, wish_of as wish_in};
+ghost use Rattle.rz_request.specs.Requests.{Asks, IsRequestFor, IsWished, Judges, Reads, disks_for as needed_for, wish_of as wish_in};
 ghost use Rattle.rz_request.specs.declared.wishes.Wish.TheVariants as wishes;
 
 use crate::reading::{fit, read_script};
@@ -29,7 +29,7 @@ fn disks_for(wish: Wish, script: &Script) -> u64
 /// A script over so many disks.
 fn fit_for(wish: Wish, script: Script, disks: u64) -> Result<Request, Stop>
     ensures judged { Judges (Ok script) wish disks result }
-    ensures wish { IsFor wish result }
+    ensures wish { IsRequestFor wish result }
 {
     let need = disks_for(wish, &script);
     match fit(script, need, disks) {
@@ -46,7 +46,7 @@ fn read_input<I: Source>(
     disks: u64,
 ) -> Result<Request, Stop>
     ensures asked { Reads (record { before = I.left input.old; after = I.left input.new; old = I.faults input.old; new = I.faults input.new }) wish disks result }
-    ensures wish { IsFor wish result }
+    ensures wish { IsRequestFor wish result }
 {
     match read_script(alloc, Form::Replay, input) {
         Ok(script) => fit_for(wish, script, disks),
@@ -57,7 +57,7 @@ fn read_input<I: Source>(
 /// The workload of a seed over so many disks.
 fn load(alloc: Global, seed: u64, disks: u64) -> Result<Request, Stop>
     ensures judged { Judges (Ok (workload seed)) (wishes.Load seed) disks result }
-    ensures wish { IsFor (wishes.Load seed) result }
+    ensures wish { IsRequestFor (wishes.Load seed) result }
 {
     match generate(alloc, seed) {
         Ok(script) => fit_for(Wish::Load { seed }, script, disks),

@@ -2,7 +2,7 @@
 
 ghost use Rattle.std.specs.Prelude.{◌≡◌, ◌≤◌, IfSome, map, option_map, string_bytes};
 ghost use Rattle.rz_request.specs.Items.{items, values};
-ghost use Rattle.rz_request.specs.Line.{alone, command_of, disks_of, folder_of, is_path as may_be_path, meaning, number_of, seen};
+ghost use Rattle.rz_request.specs.Line.{alone, command_of, disks_of, folder_of, is_path as may_be_path, meaning, number_stated, seen};
 ghost use Rattle.rz_request.specs.declared.items.ItemKind.TheVariants as kinds;
 
 use crate::Command;
@@ -71,7 +71,7 @@ fn read_alone(command: Command, words: &[String]) -> Option<Command>
 
 /// The number of a command.
 fn read_numbered(words: &[String], low: u64, high: u64) -> Option<u64>
-    ensures value { result ≡ number_of low high (values kinds.Plain (items (map string_bytes words.now))) }
+    ensures value { result ≡ number_stated low high (values kinds.Plain (items (map string_bytes words.now))) }
     ensures high { IfSome result (λ n. n ≤ high) }
 {
     match stated(words, ItemKind::Plain) {

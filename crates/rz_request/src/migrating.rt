@@ -2,7 +2,7 @@
 ghost use Rattle.std.specs.Prelude.{◌≡◌, Ok, length};
 ghost use Rattle.mj_angles.specs.Layout.{bsize_of};
 ghost use Rattle.rz_events.specs.Volume.{IsNode};
-ghost use Rattle.rz_request.specs.Carried.{Follows, Migrates, geometry_of};
+ghost use Rattle.rz_request.specs.Carried.{FollowsOldDisk, Migrates, geometry_of};
 
 use crate::carrying::carry;
 use crate::{Migrated, OldNode, Stop, migration};
@@ -28,7 +28,7 @@ fn carry_in<D: Disk>(alloc: Global, node: &OldNode, disks: &mut Vec<D>) -> Resul
     requires two { length disks.old.items ≡ 2 }
     requires rules { IsNode node.now.node }
     requires small { bsize_of node.now.layout ≡ 0 }
-    ensures { Follows D.tells D.text D.image D.meter (Ok node.now) disks.old.items disks.new.items result }
+    ensures { FollowsOldDisk D.tells D.text D.image D.meter (Ok node.now) disks.old.items disks.new.items result }
 {
     let Some(new) = disks.pop() else {
         unreachable!()

@@ -2,4 +2,4 @@ pub mod Calls
 pub mod Restarts
 pub mod Lists
 pub mod Founds
-pub mod GoesOn
+pub mod CanGoOn

@@ -32,7 +32,7 @@ HasLength f (call.Publish key stamp mask size) = size ≡ length_in (f.wrote sta
 HasLength f _ = Unit {0}
 
 -- The event is that of a reply to a call, which is added where it changed the export.
-pub record Adds (x : Event) (before after : List Call) : Type 0 where
+pub record AddsCall (x : Event) (before after : List Call) : Type 0 where
   pub by : Actor
   pub call : Call
   pub reply : Reply
@@ -40,6 +40,6 @@ pub record Adds (x : Event) (before after : List Call) : Type 0 where
   pub after_is : after ≡ calls_after reply call before
 
 -- the calls, the oldest first, that events of the export tell, whatever lengths the publishes have
-abbrev pub AreTold : List Event → List Call → Type 0
-AreTold [] calls = calls ≡ []
-AreTold (x ∷ w) calls = (before : List Call) × AreTold w before × Adds x before calls
+abbrev pub AreCallsTold : List Event → List Call → Type 0
+AreCallsTold [] calls = calls ≡ []
+AreCallsTold (x ∷ w) calls = (before : List Call) × AreCallsTold w before × AddsCall x before calls

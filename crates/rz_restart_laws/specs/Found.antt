@@ -26,7 +26,7 @@ StandsByLog v h n text =
     ⊎ StandsFor (geometry_in v n) (last_fence (of_word (Node n) h)) text (λ key stamp. on_disk (settled_records v (facts h) (of_word (Node n) h) n key stamp))
 
 -- A node that was opened on such a text: what it holds is what the text stands for.
-pub record IsFound (v : Volume) (h : List Event) (n : ℕ) (text : List ℕ) (s : NodeState) : Type 0 where
+pub record IsNodeFound (v : Volume) (h : List Event) (n : ℕ) (text : List ℕ) (s : NodeState) : Type 0 where
   pub logged : StandsByLog v h n text
   pub state : s ≡ opened s.losses s.fence s.held
   pub stands : (records : Records) × StandsFor (geometry_in v n) s.fence text records
@@ -34,8 +34,8 @@ pub record IsFound (v : Volume) (h : List Event) (n : ℕ) (text : List ℕ) (s 
 
 -- A store that was opened: the export has answered the calls that changed the log's export, and each node was opened as one
 -- that lost as many disks as the export knows.
-pub record AreFound (v : Volume) (h : List Event) (export : ExportState) (nodes : ℕ → NodeState) : Type 0 where
+pub record IsStoreFound (v : Volume) (h : List Event) (export : ExportState) (nodes : ℕ → NodeState) : Type 0 where
   pub export_is : export ≡ after_all (new_export v 0) (changing_calls h)
-  pub found : (n : ℕ) → IsNodeOf v n → (text : List ℕ) × IsFound v h n text (nodes n)
+  pub found : (n : ℕ) → IsNodeOf v n → (text : List ℕ) × IsNodeFound v h n text (nodes n)
   pub losses : (n : ℕ) → IsNodeOf v n → (nodes n).losses ≡ loss_in export n
   pub others : (n : ℕ) → ¬ IsNodeOf v n → nodes n ≡ fresh

@@ -24,7 +24,7 @@ use Rattle.rz_play_laws.specs.Fine.{MayBegin, IsFine}
 use Rattle.rz_play_laws.specs.Runs.{IsScript, IsRunAfter}
 use Rattle.rz_restart_laws.specs.Earlier.{IsEarlier, MayTake, restarted, IsRestart, IsRestarted}
 use Rattle.rz_restart_laws.specs.Calls.{changing_calls, HasLength}
-use Rattle.rz_restart_laws.specs.Found.{IsFound, AreFound}
+use Rattle.rz_restart_laws.specs.Found.{IsNodeFound, IsStoreFound}
 
 -- The nodes may be stopped and started.
 abbrev pub MayRestart : Volume → Type 0
@@ -33,7 +33,7 @@ MayRestart v = (h : List Event) → IsEarlier v h → (took : ℕ → Bool) → 
 -- A node that was opened on a text: a disk that has this text alone has the images of the node's state.
 abbrev pub IsFoundLaw : {D : Type 0} → (D → List ℕ → Type 0) → Type 0
 IsFoundLaw {D = D} image = (v : Volume) (h : List Event) (n : ℕ) (text : List ℕ) (s : NodeState) (d : D)
-    → IsFound v h n text s → Only text (image d) → IsImaged v (facts h) n s (geometry_in v n) (image d)
+    → IsNodeFound v h n text s → Only text (image d) → IsImaged v (facts h) n s (geometry_in v n) (image d)
 
 -- An export that answers the calls which changed the log's export, the oldest first, comes to its state.
 abbrev pub IsExportAgain : Volume → Type 0
@@ -41,7 +41,7 @@ IsExportAgain v = (h : List Event) → IsLegalInRuns v h
     → after_all (new_export v 0) (changing_calls h) ≡ export_of v (facts h) (of_word Export h)
 
 -- Nodes and export are those of this log, which is the earlier one with the nodes stopped and started: a play may go on.
-pub record GoesOn (v : Volume) (h : List Event) (export : ExportState) (nodes : ℕ → NodeState) (old : List Event) : Type 0 where
+pub record CanGoOn (v : Volume) (h : List Event) (export : ExportState) (nodes : ℕ → NodeState) (old : List Event) : Type 0 where
   pub restart : IsRestart v h old
   pub nodes_are : (n : ℕ) → IsNode (facts old) (of_word (Node n) old) (nodes n)
   pub export_is : IsExport v (facts old) (of_word Export old) export
@@ -49,8 +49,8 @@ pub record GoesOn (v : Volume) (h : List Event) (export : ExportState) (nodes : 
   pub begins : MayBegin v nodes export old
 
 abbrev pub MayGoOn : Volume → Type 0
-MayGoOn v = (h : List Event) (export : ExportState) (nodes : ℕ → NodeState) → IsEarlier v h → AreFound v h export nodes
-    → (old : List Event) × IsRestarted v h old × GoesOn v h export nodes old
+MayGoOn v = (h : List Event) (export : ExportState) (nodes : ℕ → NodeState) → IsEarlier v h → IsStoreFound v h export nodes
+    → (old : List Event) × IsRestarted v h old × CanGoOn v h export nodes old
 
 -- The log of a play that went on so is legal behind the earlier one, and both together are sound.
 abbrev pub IsSoundAfterwards : Volume → Type 0

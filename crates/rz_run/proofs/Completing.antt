@@ -13,24 +13,24 @@ use Rattle.rz_request.specs.Runs.{AsksIf}
 use Rattle.rz_request.specs.declared.refusal.Stop.{Stop}
 use Rattle.rz_request.specs.declared.refusal.Stop.TheVariants as stops
 use Rattle.rz_report.specs.Output.{Sunk, Lacks}
-use Rattle.rz_report.specs.Telling.{Fails}
+use Rattle.rz_report.specs.Telling.{TellsUnformatted}
 use Rattle.rz_report.proofs.Asked.{HasCome, has-come}
-use Rattle.rz_run.specs.Clear.{IsComplete, IsFinished}
+use Rattle.rz_run.specs.Clear.{RunCompletes, IsRunFinished}
 use Rattle.rz_run.specs.Handed.{Handed}
-use Rattle.rz_run.specs.Runs.{Follows, IsPlayed, IsToldOf, IsUnplayed, Plays}
+use Rattle.rz_run.specs.Runs.{FollowsRun, IsRunPlayed, IsToldOf, IsUnplayed, PlaysRun}
 
 module _ {D L : Type 0} (tells honest : Bool) (meter : D → Meter) (image : D → List ℕ → Type 0) (count : L → ℕ) (disks : Handed D) (links : Handed L) (sink : Sunk) (status : ℕ) (s : Script)
     (sink_whole : ¬ Rises sink.old sink.new) (formatted : IsUnplayed tells meter image s.volume disks links sink status → (index : ℕ) → ¬ IsCause meter disks.old disks.new (faults.Disk index)) where
   -- what the law says of the run
   abbrev Comes : Type 0
-  Comes = ((h : List Event) × IsFinished honest meter image count s disks links sink status h) ⊎ Lacks sink status
+  Comes = ((h : List Event) × IsRunFinished honest meter image count s disks links sink status h) ⊎ Lacks sink status
 
   -- no disk failed
-  only-lacks : (fault : DriverFault) → IsCause meter disks.old disks.new fault → Fails fault sink status → ((index : ℕ) → ¬ IsCause meter disks.old disks.new (faults.Disk index)) → Lacks sink status
+  only-lacks : (fault : DriverFault) → IsCause meter disks.old disks.new fault → TellsUnformatted fault sink status → ((index : ℕ) → ¬ IsCause meter disks.old disks.new (faults.Disk index)) → Lacks sink status
   only-lacks faults.NoMemory cause lacks none = lacks
   only-lacks (faults.Disk index) cause refuses none = absurd (none index cause)
 
-  told : (h : List Event) → IsPlayed honest meter image count s disks links sink status h → IsToldOf honest s.volume s.lines h sink status → Comes
+  told : (h : List Event) → IsRunPlayed honest meter image count s disks links sink status h → IsToldOf honest s.volume s.lines h sink status → Comes
   told h played (inl (all, inl took)) = inl (
     h,
     record {
@@ -43,17 +43,17 @@ module _ {D L : Type 0} (tells honest : Bool) (meter : D → Meter) (image : D �
   told h played (inl (all, inr failed)) = absurd (sink_whole failed.1)
   told h played (inr (begun, lacks)) = inr lacks
 
-  plays : Plays tells honest meter image count s disks links sink status → Comes
+  plays : PlaysRun tells honest meter image count s disks links sink status → Comes
   plays (inl unplayed) = inr (only-lacks unplayed.fault unplayed.cause unplayed.told (formatted unplayed))
   plays (inr (h, played)) = told h played played.told
 
-  follows : (r : Result Script Stop) → HasCome s r → Follows tells honest meter image count r disks links sink status → Comes
-  follows (Ok came) is so = plays (subst (λ (x : Script). Plays tells honest meter image count x disks links sink status) is so)
+  follows : (r : Result Script Stop) → HasCome s r → FollowsRun tells honest meter image count r disks links sink status → Comes
+  follows (Ok came) is so = plays (subst (λ (x : Script). PlaysRun tells honest meter image count x disks links sink status) is so)
   follows (Err stops.NoMemory) is so = inr so.0
   follows (Err stops.Source) is so = absurd is
   follows (Err (stops.Refused refusal)) is so = absurd is
 
-pub complete : {D L : Type 0} (tells : Bool) (meter : D → Meter) (image : D → List ℕ → Type 0) (count : L → ℕ) → IsComplete tells meter image count
+pub complete : {D L : Type 0} (tells : Bool) (meter : D → Meter) (image : D → List ℕ → Type 0) (count : L → ℕ) → RunCompletes tells meter image count
 complete tells meter image count honest words source disks links sink status (r, asks, so) s clear =
     let text = clear.means in
     let asked : AsksIf true words source (length disks.old) r = subst (λ (b : Bool). AsksIf b words source (length disks.old) r) clear.wanted asks in

@@ -13,7 +13,7 @@ use Rattle.rz_chronicle.specs.Kinds.{is_honest, volume_in}
 use Rattle.rz_chronicle.specs.Rules.{PassView}
 use Rattle.rz_show.specs.Shown.{shown_of}
 use Rattle.rz_threads_steps.specs.Turned.{AreLost}
-use Rattle.rz_threads_worker.specs.Doing.{IsBegun}
+use Rattle.rz_threads_worker.specs.Doing.{IsSomeDone}
 use Rattle.rz_threads_worker.specs.Workers.{IsAllDone, agenda_of, agenda_with}
 use Rattle.rz_threads_workers.specs.declared.pool_worker.PoolWorker.{PoolWorker}
 use Rattle.rz_threads_workers.specs.WorkerPool.{actor_of, link_of, CanWork, IsPoolWorker}
@@ -43,9 +43,9 @@ module _ {J L : Type 0} (kind : List ℕ) (lines : List Line) where
     -- what each has done
     begun-one : (by : Actor) (m : PoolWorker J L) → IsPoolWorker kind lines (new_pass by) m → member.HasBegun kind log m → HasBegun (is_honest kind) (volume_in kind) lines log by
     begun-one by m s begun =
-        let at_pass : IsBegun (is_honest kind) (volume_in kind).layout by (agenda_of m.worker.agenda) [] log =
-        subst (λ (p : PassView). IsBegun (is_honest kind) (volume_in kind).layout p.actor (agenda_of m.worker.agenda) p.log log) s.pass begun in
-        subst (λ (from : Agenda). IsBegun (is_honest kind) (volume_in kind).layout by from [] log) s.agenda at_pass
+        let at_pass : IsSomeDone (is_honest kind) (volume_in kind).layout by (agenda_of m.worker.agenda) [] log =
+        subst (λ (p : PassView). IsSomeDone (is_honest kind) (volume_in kind).layout p.actor (agenda_of m.worker.agenda) p.log log) s.pass begun in
+        subst (λ (from : Agenda). IsSomeDone (is_honest kind) (volume_in kind).layout by from [] log) s.agenda at_pass
 
     pub begun-all : (bys : List Actor) (ms : List (PoolWorker J L)) → AllZip (IsPoolWorker kind lines) (map new_pass bys) ms → AllByRecursion (member.HasBegun kind log) ms → AllByRecursion (HasBegun (is_honest kind) (volume_in kind) lines log) bys
     begun-all [] [] all begun = tt

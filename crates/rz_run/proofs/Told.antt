@@ -18,10 +18,10 @@ use Rattle.rz_chronicle.specs.Rules.{PassView}
 use Rattle.rz_shared_locked.specs.Counts.{AreCountedSince}
 use Rattle.rz_shared.proofs.NewLockedNodes.{untouched}
 use Rattle.rz_show.specs.RunText.{run_text}
-use Rattle.rz_threads.specs.Orders.{AreBegun, AreDone}
+use Rattle.rz_threads.specs.Orders.{AreLinesBegun, AreDone}
 use Rattle.rz_threads_workers.specs.declared.pool_worker.PoolWorker.{PoolWorker}
 use Rattle.rz_threads_workers.specs.WorkerPool.{IsPoolWorker}
-use Rattle.rz_threads.specs.Left.{IsLeft}
+use Rattle.rz_threads.specs.Left.{IsDiskLeft}
 use Rattle.rz_threads.specs.PlayResult as member
 use Rattle.rz_report.specs.Output.{Sunk, Ends, Lacks}
 use Rattle.rz_run.specs.Done.{HasBegun, HasFinished, IsAllBegun, IsAllFinished}
@@ -42,7 +42,7 @@ kind-is read_back honest v kind is = is ∙ ap (λ (b : Bool). kind_of b v) (sym
 
 -- Disks that were left, beside those that were handed in.
 module _ {D : Type 0} (meter : D → Meter) (image : D → List ℕ → Type 0) (kind : List ℕ) (first : ℕ → ℕ) (log : List Event) where
-  disk-told : (n : ℕ) (old new : D) → first n ≡ faults (meter old) → IsLeft meter image kind first log n new → IsDiskTold (is_honest kind) meter image (volume_in kind) log (n, old) new
+  disk-told : (n : ℕ) (old new : D) → first n ≡ faults (meter old) → IsDiskLeft meter image kind first log n new → IsDiskTold (is_honest kind) meter image (volume_in kind) log (n, old) new
   disk-told n old new is left = record {
     counted = subst (λ (k : ℕ). AreCountedSince k (faults (meter new)) (of_word (Node n) log)) is left.counted;
     images = left.images;
@@ -57,7 +57,7 @@ module _ {D : Type 0} (meter : D → Meter) (image : D → List ℕ → Type 0) 
   none-is : (a : ℕ) (xs : List ℕ) → a ∷ xs ≡ [] → ⊥
   none-is a xs is = cc (is)
 
-  disks-told : (ns : List ℕ) (old new : List D) → map first ns ≡ map (λ (d : D). faults (meter d)) old → AllZip (IsLeft meter image kind first log) ns new
+  disks-told : (ns : List ℕ) (old new : List D) → map first ns ≡ map (λ (d : D). faults (meter d)) old → AllZip (IsDiskLeft meter image kind first log) ns new
       → AllZip (IsDiskTold (is_honest kind) meter image (volume_in kind) log) (zip ns old) new
   disks-told [] old [] firsts left = tt
   disks-told [] old (d ∷ new) firsts left = absurd left
@@ -74,20 +74,20 @@ module _ (read_back : IsReadBack) (kind : List ℕ) (v : Volume) (is : kind ≡ 
   moved P so = subst (P v) is (subst (λ (u : Volume). P u kind) volume-is so)
 
   pub disks-at : {D : Type 0} (meter : D → Meter) (image : D → List ℕ → Type 0) (first : ℕ → ℕ) (log : List Event) (cluster : Volume) (old new : List D) → cluster ≡ volume_in kind
-      → map first (sids_of v) ≡ map (λ (d : D). faults (meter d)) old → AllZip (IsLeft meter image kind first log) (sids_of cluster) new
+      → map first (sids_of v) ≡ map (λ (d : D). faults (meter d)) old → AllZip (IsDiskLeft meter image kind first log) (sids_of cluster) new
       → AreDisksTold (is_honest kind) meter image v log (record { old = old; new = new })
   disks-at {D} meter image first log cluster old new same firsts left =
       subst (λ (u : Volume). AllZip (IsDiskTold (is_honest kind) meter image u log) (zip (sids_of u) old) new) volume-is
       (disks-told meter image kind first log (sids_of (volume_in kind)) old new
       (subst (λ (u : Volume). map first (sids_of u) ≡ map (λ (d : D). faults (meter d)) old) (sym volume-is) firsts)
-      (subst (λ (u : Volume). AllZip (IsLeft meter image kind first log) (sids_of u) new) same left))
+      (subst (λ (u : Volume). AllZip (IsDiskLeft meter image kind first log) (sids_of u) new) same left))
 
   module _ {J L : Type 0} (lines : List Line) (ms : List (PoolWorker J L)) (staffed : AllZip (IsPoolWorker kind lines) (map new_pass actors) ms) (admin : PassView) (new : admin ≡ new_pass Admin) (log : List Event) where
     -- what all have done
-    pub all-begun : AllByRecursion (member.HasBegun kind log) ms → AreBegun kind lines admin.log log → IsAllBegun (is_honest kind) v lines log
+    pub all-begun : AllByRecursion (member.HasBegun kind log) ms → AreLinesBegun kind lines admin.log log → IsAllBegun (is_honest kind) v lines log
     all-begun begun orders = record {
       workers = subst (λ (u : Volume). AllByRecursion (HasBegun (is_honest kind) u lines log) actors) volume-is (begun-all kind lines log actors ms staffed begun);
-      admin = moved (λ u k. AreBegun k lines [] log) (subst (λ (p : PassView). AreBegun kind lines p.log log) new orders);
+      admin = moved (λ u k. AreLinesBegun k lines [] log) (subst (λ (p : PassView). AreLinesBegun kind lines p.log log) new orders);
     }
 
     pub all-finished : AllByRecursion (member.HasFinished kind log) ms → AreDone kind lines admin.log log → IsAllFinished (is_honest kind) v lines log

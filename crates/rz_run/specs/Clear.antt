@@ -17,12 +17,12 @@ use Rattle.rz_request.specs.Runs.{wants_run}
 use Rattle.rz_report.specs.Output.{Sunk, Lacks}
 use Rattle.rz_run.specs.Done.{IsAllFinished}
 use Rattle.rz_run.specs.Handed.{Handed}
-use Rattle.rz_run.specs.Runs.{IsPlayed, IsUnplayed, Runs}
+use Rattle.rz_run.specs.Runs.{IsRunPlayed, IsUnplayed, Runs}
 
 -- The words are those of a run. The text that the source has left is in the grammar and within the limit, and means the script, which
 -- is within the limits and has a disk for each node. Neither the source nor the sink counted a fault, nor did a disk while it was
 -- formatted, which is where no play began.
-pub record IsClear {D L : Type 0} (tells : Bool) (meter : D → Meter) (image : D → List ℕ → Type 0) (words : Option Meaning) (source : Reading) (disks : Handed D) (links : Handed L) (sink : Sunk) (status : ℕ) (s : Script) : Type 0 where
+pub record IsRunClear {D L : Type 0} (tells : Bool) (meter : D → Meter) (image : D → List ℕ → Type 0) (words : Option Meaning) (source : Reading) (disks : Handed D) (links : Handed L) (sink : Sunk) (status : ℕ) (s : Script) : Type 0 where
   pub wanted : wants_run words ≡ true
   pub means : (text : List ℕ) × (source.before ≡ Some text) × (length text ≤ limit) × (script forms.Run text ≡ Ok s)
   pub small : is_large s ≡ false
@@ -33,17 +33,17 @@ pub record IsClear {D L : Type 0} (tells : Bool) (meter : D → Meter) (image : 
 
 -- The status is 0. The script was played with this log, in which everyone did all that the script gives it, and the sink took the
 -- whole text of the log, with the number of its events.
-pub record IsFinished {D L : Type 0} (honest : Bool) (meter : D → Meter) (image : D → List ℕ → Type 0) (count : L → ℕ) (s : Script) (disks : Handed D) (links : Handed L) (sink : Sunk) (status : ℕ) (h : List Event) : Type 0 where
+pub record IsRunFinished {D L : Type 0} (honest : Bool) (meter : D → Meter) (image : D → List ℕ → Type 0) (count : L → ℕ) (s : Script) (disks : Handed D) (links : Handed L) (sink : Sunk) (status : ℕ) (h : List Event) : Type 0 where
   pub status_is : status ≡ 0
-  pub played : IsPlayed honest meter image count s disks links sink status h
+  pub played : IsRunPlayed honest meter image count s disks links sink status h
   pub all_done : IsAllFinished honest s.volume s.lines h
   pub taken : Appends sink.before sink.after (run_text h (length h))
 
 -- Where nothing stands in its way, a run that returns has played the script, everyone to its end, or memory was wanting: what comes of
 -- the words and the source leaves nothing else.
-abbrev pub IsComplete : {D L : Type 0} → (tells : Bool) → (D → Meter) → (D → List ℕ → Type 0) → (L → ℕ) → Type 0
-IsComplete {D = D} {L = L} tells meter image count =
+abbrev pub RunCompletes : {D L : Type 0} → (tells : Bool) → (D → Meter) → (D → List ℕ → Type 0) → (L → ℕ) → Type 0
+RunCompletes {D = D} {L = L} tells meter image count =
     (honest : Bool) (words : Option Meaning) (source : Reading) (disks : Handed D) (links : Handed L) (sink : Sunk) (status : ℕ)
     → Runs tells honest meter image count words source disks links sink status
-    → (s : Script) → IsClear tells meter image words source disks links sink status s
-    → ((h : List Event) × IsFinished honest meter image count s disks links sink status h) ⊎ Lacks sink status
+    → (s : Script) → IsRunClear tells meter image words source disks links sink status s
+    → ((h : List Event) × IsRunFinished honest meter image count s disks links sink status h) ⊎ Lacks sink status

@@ -13,8 +13,8 @@ use Rattle.rz_safety.specs.Writes.{AreWritesEnded}
 use Rattle.rz_play.specs.World.{actors}
 use Rattle.rz_play_locks.specs.Operations.{given}
 use Rattle.rz_chronicle.specs.Kinds.{kind_of}
-use Rattle.rz_threads.specs.Orders.{AreBegun, AreDone}
-use Rattle.rz_threads_worker.specs.Doing.{IsBegun}
+use Rattle.rz_threads.specs.Orders.{AreLinesBegun, AreDone}
+use Rattle.rz_threads_worker.specs.Doing.{IsSomeDone}
 use Rattle.rz_threads_worker.specs.Workers.{IsAllDone, agenda_with}
 
 -- an actor's own events are those of all operations that the lines give it, each once and in their order
@@ -23,7 +23,7 @@ HasFinished honest v lines h by = IsAllDone honest v.layout by (agenda_with (giv
 
 -- they are those of the first of these operations, and of a beginning of the next
 abbrev pub HasBegun : Bool → Volume → List Line → List Event → Actor → Type 0
-HasBegun honest v lines h by = IsBegun honest v.layout by (agenda_with (given by lines)) [] h
+HasBegun honest v lines h by = IsSomeDone honest v.layout by (agenda_with (given by lines)) [] h
 
 -- Each client and each rebuilder did all that it was given, and the administrator all of its lines.
 pub record IsAllFinished (honest : Bool) (v : Volume) (lines : List Line) (h : List Event) : Type 0 where
@@ -33,7 +33,7 @@ pub record IsAllFinished (honest : Bool) (v : Volume) (lines : List Line) (h : L
 -- Each of them did the first part of it, and nothing else.
 pub record IsAllBegun (honest : Bool) (v : Volume) (lines : List Line) (h : List Event) : Type 0 where
   pub workers : AllByRecursion (HasBegun honest v lines h) actors
-  pub admin : AreBegun (kind_of honest v) lines [] h
+  pub admin : AreLinesBegun (kind_of honest v) lines [] h
 
 -- The log of an honest book. Each event is allowed after those before it. Each read gives one write's text, no older than what was
 -- acknowledged before it began, and answers unless too many nodes did not. Each write that ends was acknowledged or says why not.

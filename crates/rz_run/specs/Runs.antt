@@ -13,7 +13,7 @@ use Rattle.rz_request.specs.Requests.{Reading}
 use Rattle.rz_request.specs.Runs.{AsksRun}
 use Rattle.rz_request.specs.declared.refusal.Stop.{Stop}
 use Rattle.rz_report.specs.Output.{Sunk, Ends, Lacks}
-use Rattle.rz_report.specs.Telling.{Fails, Stops}
+use Rattle.rz_report.specs.Telling.{TellsUnformatted, Stops}
 use Rattle.rz_run.specs.Done.{IsAllBegun, IsAllFinished, IsTrueLog}
 use Rattle.rz_run.specs.Handed.{AreDisksTold, AreLinksTold, Handed}
 
@@ -22,7 +22,7 @@ use Rattle.rz_run.specs.Handed.{AreDisksTold, AreLinksTold, Handed}
 pub record IsUnplayed {D L : Type 0} (tells : Bool) (meter : D → Meter) (image : D → List ℕ → Type 0) (v : Volume) (disks : Handed D) (links : Handed L) (sink : Sunk) (status : ℕ) : Type 0 where
   pub fault : DriverFault
   pub cause : IsCause meter disks.old disks.new fault
-  pub told : Fails fault sink status
+  pub told : TellsUnformatted fault sink status
   pub disks_back : AreBack tells meter image v.layout (nodes_of v.clusters) disks.old disks.new
   pub links_back : links.new ≡ links.old
 
@@ -35,25 +35,25 @@ IsToldOf honest v lines h sink status =
 
 -- A script was played with this log, the newest event first. The log says what each actor did, and how disks and links come back.
 -- That of an honest book is true.
-pub record IsPlayed {D L : Type 0} (honest : Bool) (meter : D → Meter) (image : D → List ℕ → Type 0) (count : L → ℕ) (s : Script) (disks : Handed D) (links : Handed L) (sink : Sunk) (status : ℕ) (h : List Event) : Type 0 where
+pub record IsRunPlayed {D L : Type 0} (honest : Bool) (meter : D → Meter) (image : D → List ℕ → Type 0) (count : L → ℕ) (s : Script) (disks : Handed D) (links : Handed L) (sink : Sunk) (status : ℕ) (h : List Event) : Type 0 where
   pub told : IsToldOf honest s.volume s.lines h sink status
   pub true_log : IsTrue honest → IsTrueLog s.volume h
   pub disks_told : AreDisksTold honest meter image s.volume h disks
   pub links_told : AreLinksTold count h links
 
 -- what comes of a script over disks
-abbrev pub Plays : {D L : Type 0} → (tells honest : Bool) → (D → Meter) → (D → List ℕ → Type 0) → (L → ℕ) → Script → Handed D → Handed L → Sunk → ℕ → Type 0
-Plays tells honest meter image count s disks links sink status =
+abbrev pub PlaysRun : {D L : Type 0} → (tells honest : Bool) → (D → Meter) → (D → List ℕ → Type 0) → (L → ℕ) → Script → Handed D → Handed L → Sunk → ℕ → Type 0
+PlaysRun tells honest meter image count s disks links sink status =
     IsUnplayed tells meter image s.volume disks links sink status
-    ⊎ ((h : List Event) × IsPlayed honest meter image count s disks links sink status h)
+    ⊎ ((h : List Event) × IsRunPlayed honest meter image count s disks links sink status h)
 
 -- a script is played; or there is none, that is told, and disks and links are as they came
-abbrev pub Follows : {D L : Type 0} → (tells honest : Bool) → (D → Meter) → (D → List ℕ → Type 0) → (L → ℕ) → Result Script Stop → Handed D → Handed L → Sunk → ℕ → Type 0
-Follows tells honest meter image count (Ok s) disks links sink status = Plays tells honest meter image count s disks links sink status
-Follows tells honest meter image count (Err stop) disks links sink status = Stops stop sink status × (disks.new ≡ disks.old) × (links.new ≡ links.old)
+abbrev pub FollowsRun : {D L : Type 0} → (tells honest : Bool) → (D → Meter) → (D → List ℕ → Type 0) → (L → ℕ) → Result Script Stop → Handed D → Handed L → Sunk → ℕ → Type 0
+FollowsRun tells honest meter image count (Ok s) disks links sink status = PlaysRun tells honest meter image count s disks links sink status
+FollowsRun tells honest meter image count (Err stop) disks links sink status = Stops stop sink status × (disks.new ≡ disks.old) × (links.new ≡ links.old)
 
 -- A run at words of this meaning, over a source, disks, links and a sink, with a book that is honest or not: what the words and the
 -- source ask for of so many disks is answered, and played.
 abbrev pub Runs : {D L : Type 0} → (tells honest : Bool) → (D → Meter) → (D → List ℕ → Type 0) → (L → ℕ) → Option Meaning → Reading → Handed D → Handed L → Sunk → ℕ → Type 0
 Runs tells honest meter image count words source disks links sink status =
-    (r : Result Script Stop) × AsksRun words source (length disks.old) r × Follows tells honest meter image count r disks links sink status
+    (r : Result Script Stop) × AsksRun words source (length disks.old) r × FollowsRun tells honest meter image count r disks links sink status

@@ -3,7 +3,7 @@ ghost use Rattle.std.specs.Prelude.{List};
 ghost use Rattle.rz_events.specs.Volume.{Volume as AVolume};
 ghost use Rattle.rz_events.specs.declared.events.Event.{Event as AnEvent};
 ghost use Rattle.rz_core.specs.Legal.{IsLegal};
-ghost use Rattle.rz_run.specs.Clear.{IsComplete};
+ghost use Rattle.rz_run.specs.Clear.{RunCompletes};
 ghost use Rattle.rz_run.specs.Done.{IsTrueLog};
 
 use rz_disk::Disk;
@@ -24,5 +24,5 @@ pub(crate) fn true_logs()
 /// a script within the limits, there is a disk for each node, and neither the source, nor the sink, nor a
 /// disk while it is formatted counts a fault. Want of memory is the one other answer.
 pub fn completes<D: Disk, L: Link>()
-    ensures { IsComplete D.tells D.meter D.image L.lost }
+    ensures { RunCompletes D.tells D.meter D.image L.lost }
 {}

@@ -12,7 +12,7 @@ pub(crate) trait Named {
 
     ghost book: { Book };
 
-    ghost tallies: { ℕ };
+    ghost counters: { ℕ };
 
     ghost copy: { ℕ };
 
@@ -26,7 +26,7 @@ impl Named for Brand {
 
     ghost book = { record { number = 0; log_name = 0; cells_name = 0 } };
 
-    ghost tallies = { 0 };
+    ghost counters = { 0 };
 
     ghost copy = { 0 };
 
@@ -45,7 +45,7 @@ impl<K: Named> Naming for NewName<K> {
 
     ghost book = { K.book };
 
-    ghost tallies = { K.tallies };
+    ghost counters = { K.counters };
 
     ghost copy = { K.copy };
 

@@ -10,7 +10,7 @@ ghost use Rattle.rz_chronicle.specs.Keys.{sids_of};
 ghost use Rattle.rz_chronicle.specs.Kinds.{HasEarlierLog, is_honest, kind_of, volume_in};
 ghost use Rattle.rz_threads_workers.specs.WorkerPool.{link_of, IsPoolWorker};
 ghost use Rattle.rz_request.specs.Requests.{nodes_in};
-ghost use Rattle.rz_run.specs.Runs.{Plays};
+ghost use Rattle.rz_run.specs.Runs.{PlaysRun};
 
 use crate::laws::true_logs;
 use crate::naming::{Named, NewName};
@@ -58,7 +58,7 @@ fn play_setup<
     requires count { length disks.items ≡ nodes_in script.now }
     requires tells { IsTrue (is_honest J.kind) → IsTrue D.tells }
     requires counts { map J.first (sids_of script.now.volume) ≡ map (λ d. faults (D.meter d)) disks.items }
-    ensures { Plays D.tells (is_honest J.kind) D.meter D.image L.lost script.now (record { old = disks.items; new = result.disks.items }) (record { old = map link_of setup.pool.workers.items; new = result.links.items }) (record { before = O.taken output.old; after = O.taken output.new; old = O.faults output.old; new = O.faults output.new }) result.status }
+    ensures { PlaysRun D.tells (is_honest J.kind) D.meter D.image L.lost script.now (record { old = disks.items; new = result.disks.items }) (record { old = map link_of setup.pool.workers.items; new = result.links.items }) (record { before = O.taken output.old; after = O.taken output.new; old = O.faults output.old; new = O.faults output.new }) result.status }
 {
     true_logs();
     read_back();
@@ -121,14 +121,14 @@ pub(crate) fn play_book<
     links: Vec<L>,
     output: &mut O,
 ) -> Ran<D, L>
-    requires named { (opened.seen.book ≡ J.book) × (opened.tokens.tallies ≡ J.tallies) × (opened.tokens.copy ≡ J.copy) × (opened.tokens.kind ≡ J.kind) }
+    requires named { (opened.seen.book ≡ J.book) × (opened.tokens.counters ≡ J.counters) × (opened.tokens.copy ≡ J.copy) × (opened.tokens.kind ≡ J.kind) }
     requires earlier { HasEarlierLog J.kind J.earlier }
     requires kind { J.kind ≡ kind_of (is_honest J.kind) script.now.volume }
     requires count { length disks.items ≡ nodes_in script.now }
     requires links { length links.items ≡ 80 }
     requires tells { IsTrue (is_honest J.kind) → IsTrue D.tells }
     requires counts { map J.first (sids_of script.now.volume) ≡ map (λ d. faults (D.meter d)) disks.items }
-    ensures { Plays D.tells (is_honest J.kind) D.meter D.image L.lost script.now (record { old = disks.items; new = result.disks.items }) (record { old = links.items; new = result.links.items }) (record { before = O.taken output.old; after = O.taken output.new; old = O.faults output.old; new = O.faults output.new }) result.status }
+    ensures { PlaysRun D.tells (is_honest J.kind) D.meter D.image L.lost script.now (record { old = disks.items; new = result.disks.items }) (record { old = links.items; new = result.links.items }) (record { before = O.taken output.old; after = O.taken output.new; old = O.faults output.old; new = O.faults output.new }) result.status }
 {
     read_back();
     match set_up::<J, L>(alloc, opened, script, links) {
@@ -157,14 +157,14 @@ pub(crate) fn play_named<
     links: Vec<L>,
     output: &mut O,
 ) -> Ran<D, L>
-    requires named { (opened.seen.book ≡ K.book) × (opened.tokens.tallies ≡ K.tallies) × (opened.tokens.copy ≡ K.copy) × (opened.tokens.kind ≡ K.kind) }
+    requires named { (opened.seen.book ≡ K.book) × (opened.tokens.counters ≡ K.counters) × (opened.tokens.copy ≡ K.copy) × (opened.tokens.kind ≡ K.kind) }
     requires earlier { HasEarlierLog K.kind [] }
     requires kind { K.kind ≡ kind_of (is_honest K.kind) script.now.volume }
     requires count { length disks.items ≡ nodes_in script.now }
     requires links { length links.items ≡ 80 }
     requires tells { IsTrue (is_honest K.kind) → IsTrue D.tells }
     requires counts { map K.first (sids_of script.now.volume) ≡ map (λ d. faults (D.meter d)) disks.items }
-    ensures { Plays D.tells (is_honest K.kind) D.meter D.image L.lost script.now (record { old = disks.items; new = result.disks.items }) (record { old = links.items; new = result.links.items }) (record { before = O.taken output.old; after = O.taken output.new; old = O.faults output.old; new = O.faults output.new }) result.status }
+    ensures { PlaysRun D.tells (is_honest K.kind) D.meter D.image L.lost script.now (record { old = disks.items; new = result.disks.items }) (record { old = links.items; new = result.links.items }) (record { before = O.taken output.old; after = O.taken output.new; old = O.faults output.old; new = O.faults output.new }) result.status }
 {
     play_book::<NewName<K>, R, O, D, L>(rt, alloc, opened, script, disks, links, output)
 }

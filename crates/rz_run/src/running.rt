@@ -2,7 +2,7 @@
 ghost use Rattle.std.specs.Prelude.{◌≡◌, IsTrue, length, map, string_bytes};
 ghost use Rattle.rz_request.specs.Line.{meaning};
 ghost use Rattle.rz_request.specs.Requests.{nodes_in};
-ghost use Rattle.rz_run.specs.Runs.{Plays, Runs};
+ghost use Rattle.rz_run.specs.Runs.{PlaysRun, Runs};
 
 use crate::outcome::Ran;
 use crate::playing::play_named;
@@ -31,7 +31,7 @@ fn play_script<R: Threads + Wait + Sync, O: Sink, D: Disk + Send, L: Link + Send
     requires count { length disks.items ≡ nodes_in script.now }
     requires links { length links.items ≡ 80 }
     requires tells { IsTrue honest → IsTrue D.tells }
-    ensures { Plays D.tells honest D.meter D.image L.lost script.now (record { old = disks.items; new = result.disks.items }) (record { old = links.items; new = result.links.items }) (record { before = O.taken output.old; after = O.taken output.new; old = O.faults output.old; new = O.faults output.new }) result.status }
+    ensures { PlaysRun D.tells honest D.meter D.image L.lost script.now (record { old = disks.items; new = result.disks.items }) (record { old = links.items; new = result.links.items }) (record { before = O.taken output.old; after = O.taken output.new; old = O.faults output.old; new = O.faults output.new }) result.status }
 {
     read_back();
     read_back_after();

@@ -35,7 +35,7 @@ fn name_book<J: Counting>(
     opened: NewBook,
     volume: &Volume,
 ) -> Result<NamedBook<J>, AllocError>
-    requires named { (opened.seen.book ≡ J.book) × (opened.tokens.tallies ≡ J.tallies) × (opened.tokens.copy ≡ J.copy) × (opened.tokens.kind ≡ J.kind) }
+    requires named { (opened.seen.book ≡ J.book) × (opened.tokens.counters ≡ J.counters) × (opened.tokens.copy ≡ J.copy) × (opened.tokens.kind ≡ J.kind) }
     requires earlier { HasEarlierLog J.kind J.earlier }
     ensures book { IfOk result (λ c. c.book ≡ volume_in J.kind) }
     ensures admin { IfOk result (λ c. c.admin ≡ new_pass a.Admin) }
@@ -83,7 +83,7 @@ pub(crate) fn set_up<J: Counting, L: Link>(
     script: &Script,
     links: Vec<L>,
 ) -> Result<Setup<J, L>, Vec<L>>
-    requires named { (opened.seen.book ≡ J.book) × (opened.tokens.tallies ≡ J.tallies) × (opened.tokens.copy ≡ J.copy) × (opened.tokens.kind ≡ J.kind) }
+    requires named { (opened.seen.book ≡ J.book) × (opened.tokens.counters ≡ J.counters) × (opened.tokens.copy ≡ J.copy) × (opened.tokens.kind ≡ J.kind) }
     requires earlier { HasEarlierLog J.kind J.earlier }
     requires volume { script.now.volume ≡ volume_in J.kind }
     requires links { length links.items ≡ 80 }

@@ -10,8 +10,8 @@ use Rattle.rz_events.specs.declared.nodes.FetchAnswer.{FetchAnswer}
 use Rattle.rz_events.specs.declared.nodes.FetchAnswer.TheVariants as fetch
 use Rattle.rz_scrub.specs.Records.{Records, bins_at, no_records}
 use Rattle.rz_scrub_report.specs.declared.finding.Finding.{Finding}
-use Rattle.rz_scrub_report.specs.Stores.{State, IsRead}
-use Rattle.rz_scrub_report.specs.Asks.{AreAsked, IsAsked, IsFound, with_given}
+use Rattle.rz_scrub_report.specs.Stores.{State, AreBinsRead}
+use Rattle.rz_scrub_report.specs.Asks.{AreAsked, IsRecordAsked, AreRecordsFound, with_given}
 
 -- at first no position has bins
 none-in : (n p : ℕ) → get_or (replicate n (let o : Option (List ℕ) = None in o)) p None ≡ None
@@ -31,7 +31,7 @@ others s position p fetch.Down room h = refl
 others s position p fetch.DiskFault room h = refl
 
 pub bare-after : {gives : ℕ → Key → Held → List ℕ → List ℕ → Type 0} {l : Listed} {position n : ℕ} {w next : State} {s s' : Records}
-    → IsAsked gives l position n w next s s' → ((p : ℕ) → position ≤ p → bins_at s p ≡ None) → (p : ℕ) → position + 1 ≤ p → bins_at s' p ≡ None
+    → IsRecordAsked gives l position n w next s s' → ((p : ℕ) → position ≤ p → bins_at s p ≡ None) → (p : ℕ) → position + 1 ≤ p → bins_at s' p ≡ None
 bare-after {position = position} {s = s} asked before p h =
     ap (λ (t : Records). bins_at t p) asked.records
     ∙ others s position p asked.given asked.room (λ e. absurd (omega (arith, h, e)))
@@ -40,7 +40,7 @@ bare-after {position = position} {s = s} asked before p h =
 -- What a store gives later, it gave at first.
 
 read-before : {P Q : Held → List ℕ → List ℕ → Type 0} → ((told : Held) (a b : List ℕ) → P told a b → Q told a b) → (given : FetchAnswer) (a b : List ℕ)
-    → IsRead P given a b → IsRead Q given a b
+    → AreBinsRead P given a b → AreBinsRead Q given a b
 read-before to (fetch.Held told) a b h = to told a b h
 read-before to fetch.Nothing a b h = h
 read-before to fetch.Lost a b h = h
@@ -49,7 +49,7 @@ read-before to fetch.DiskFault a b h = h
 
 pub asked-before : {gives earlier : ℕ → Key → Held → List ℕ → List ℕ → Type 0} {l : Listed} {position n : ℕ} {w next : State} {s s' : Records}
     → ((m : ℕ) (key : Key) (told : Held) (a b : List ℕ) → gives m key told a b → earlier m key told a b)
-    → IsAsked gives l position n w next s s' → IsAsked earlier l position n w next s s'
+    → IsRecordAsked gives l position n w next s s' → IsRecordAsked earlier l position n w next s s'
 asked-before {l = l} {n = n} to asked = record {
   given = asked.given;
   before = asked.before;
@@ -68,12 +68,12 @@ all-asked-before l to (n ∷ nodes) position w next s s' h =
 
 pub found-before : {gives earlier : ℕ → Key → Held → List ℕ → List ℕ → Type 0} (layout : Layout) (l : Listed) (w next : State) (finding : Finding)
     → ((m : ℕ) (key : Key) (told : Held) (a b : List ℕ) → gives m key told a b → earlier m key told a b)
-    → IsFound layout gives l w finding next → IsFound layout earlier l w finding next
+    → AreRecordsFound layout gives l w finding next → AreRecordsFound layout earlier l w finding next
 found-before layout l w next finding to found = (found.0, all-asked-before l to l.info.places 0 w next (no_records layout) found.0 found.1, found.2)
 
 -- one node is asked, and then the rest
 pub asked-next : (gives : ℕ → Key → Held → List ℕ → List ℕ → Type 0) (l : Listed) (nodes : List ℕ) (i : ℕ) (w mid next : State) (s s' t : Records)
-    → i < length nodes → IsAsked gives l i (get_or nodes i 0) w mid s s' → AreAsked gives l (i + 1) (drop (i + 1) nodes) mid next s' t
+    → i < length nodes → IsRecordAsked gives l i (get_or nodes i 0) w mid s s' → AreAsked gives l (i + 1) (drop (i + 1) nodes) mid next s' t
     → AreAsked gives l i (drop i nodes) w next s t
 asked-next gives l nodes i w mid next s s' t h asked rest =
     let P : List ℕ → Type 0 = λ xs. AreAsked gives l i xs w next s t in

@@ -21,10 +21,10 @@ use Rattle.rz_scrub.specs.Records.{Records, bins_at, no_records}
 use Rattle.rz_scrub.specs.declared.verdict.Verdict.TheVariants.{Clean}
 use Rattle.rz_scrub_report.specs.declared.finding.Finding.{Finding}
 use Rattle.rz_scrub_report.specs.declared.finding.Finding.TheVariants.{Few, Judged}
-use Rattle.rz_scrub_report.specs.Asks.{AreAsked, AreGiven, IsAsked, IsFound, with_given}
+use Rattle.rz_scrub_report.specs.Asks.{AreAsked, AreGiven, IsRecordAsked, AreRecordsFound, with_given}
 use Rattle.rz_scrub_report.specs.Findings.{AreOf}
-use Rattle.rz_scrub_report.specs.Scrubs.{AreListed, AreTold, AreUnaltered, EachListed, IsScrubbed}
-use Rattle.rz_scrub_report.specs.Stores.{State, IsFetched, IsRead}
+use Rattle.rz_scrub_report.specs.Scrubs.{AreListed, AreFindingsTold, AreUnaltered, EachListed, IsScrubbed}
+use Rattle.rz_scrub_report.specs.Stores.{State, IsAnsweredFetch, AreBinsRead}
 use Rattle.rz_scrub_report.proofs.Whole.{whole}
 
 abbrev Slots : Type 0
@@ -66,7 +66,7 @@ back-state fetch.Lost s key stamp told h = h
 back-state fetch.Down s key stamp told h = h
 back-state fetch.DiskFault s key stamp told h = let none : fetch.Held told ≡ fetch.Down = h in absurd (cc)
 
-back-one : (n : ℕ) (key' : Key) (position stamp' : ℕ) (given : FetchAnswer) (w next : State) → IsFetched n key' position stamp' given w next → Back w.nodes next.nodes
+back-one : (n : ℕ) (key' : Key) (position stamp' : ℕ) (given : FetchAnswer) (w next : State) → IsAnsweredFetch n key' position stamp' given w next → Back w.nodes next.nodes
 back-one n key' position stamp' given w next f m key stamp told h =
     by_test (m == n) refl (subst (λ (nodes : ℕ → NodeState). IsFetchAnswer (fetch_answer (nodes m) key stamp) (fetch.Held told)) f.nodes h)
   where
@@ -79,7 +79,7 @@ back-all : (gives : ℕ → Key → Held → List ℕ → List ℕ → Type 0) (
     → AreAsked gives l position nodes w next s s' → Back first w.nodes → Back first next.nodes
 back-all gives l [] position first w next s s' h back = subst (λ (t : State). Back first t.nodes) (sym h.0) back
 back-all gives l (n ∷ nodes) position first w next s s' h back =
-    let asked : IsAsked gives l position n w h.0 s h.1 = h.2 in
+    let asked : IsRecordAsked gives l position n w h.0 s h.1 = h.2 in
     back-all gives l nodes (position + 1) first h.0 next h.1 s' h.3
     (λ m key stamp told x. back m key stamp told (back-one n l.key position l.published.stamp asked.given w h.0 asked.fetched m key stamp told x))
 
@@ -99,7 +99,7 @@ module _ (gives : ℕ → Key → Held → List ℕ → List ℕ → Type 0) (l 
   placed s position n told before room at tells read are p x (inr h) = are.1 p x h
 
   with-one : (s : Records) (position n : ℕ) (a : FetchAnswer) (before room : List ℕ) → slice_get l.info.places position ≡ Some n
-      → ((told : Held) → a ≡ fetch.Held told → Told n told) → IsRead (gives n l.key) a before room → Are s
+      → ((told : Held) → a ≡ fetch.Held told → Told n told) → AreBinsRead (gives n l.key) a before room → Are s
       → Are (with_given s position a room)
   with-one s position n (fetch.Held told) before room at tells read are =
       (are.0, λ p x h. placed s position n told before room at (tells told refl) read are p x (set-at s.bins position p (take (bins_at_of s.layout position) room) x h))
@@ -114,14 +114,14 @@ module _ (gives : ℕ → Key → Held → List ℕ → List ℕ → Type 0) (l 
   with-all (n ∷ nodes) position w next s s' at back h are =
       let plain : position + 0 ≡ position = omega arith in
       let here = subst (λ (k : ℕ). slice_get l.info.places k ≡ Some n) plain (at 0 n refl) in
-      let asked : IsAsked gives l position n w h.0 s h.1 = h.2 in
+      let asked : IsRecordAsked gives l position n w h.0 s h.1 = h.2 in
       let now = subst Are (sym asked.records) (with-one s position n asked.given asked.before asked.room here
       (λ told is. back n l.key l.published.stamp told (subst (λ (a : FetchAnswer). IsFetchAnswer (fetch_answer (w.nodes n) l.key l.published.stamp) a) is asked.fetched.given_is)) asked.read are) in
       with-all nodes (position + 1) h.0 next h.1 s'
       (λ i m e. let shift : position + suc i ≡ position + 1 + i = omega arith in subst (λ (k : ℕ). slice_get l.info.places k ≡ Some m) shift (at (suc i) m e))
       (λ m key stamp told x. back m key stamp told (back-one n l.key position l.published.stamp asked.given w h.0 asked.fetched m key stamp told x)) h.3 now
 
-  pub found-whole : (w next : State) (finding : Finding) → Back first w.nodes → IsFound layout gives l w finding next → (finding ≡ Few) ⊎ (finding ≡ Judged Clean)
+  pub found-whole : (w next : State) (finding : Finding) → Back first w.nodes → AreRecordsFound layout gives l w finding next → (finding ≡ Few) ⊎ (finding ≡ Judged Clean)
   found-whole w next finding back found =
       let s = found.0 in
       let are = with-all l.info.places 0 w next (no_records layout) s (λ i n e. let plain : i ≡ 0 + i = omega arith in subst (λ (k : ℕ). slice_get l.info.places k ≡ Some n) plain e) back found.1
@@ -136,7 +136,7 @@ module _ (gives : ℕ → Key → Held → List ℕ → List ℕ → Type 0) (l 
 -- Each line of a scrub.
 
 all-whole : (layout : Layout) (gives : ℕ → Key → Held → List ℕ → List ℕ → Type 0) (s : Export) (first : ℕ → NodeState) → EachListed s (λ l. (g : Grid) × AreGiven layout gives first l g)
-    → (blocks : List Listed) (after : Option Key) (w next : State) (text : List ℕ) → Back first w.nodes → AreListed s after blocks → AreTold layout gives blocks w text next → AreUnaltered layout blocks text
+    → (blocks : List Listed) (after : Option Key) (w next : State) (text : List ℕ) → Back first w.nodes → AreListed s after blocks → AreFindingsTold layout gives blocks w text next → AreUnaltered layout blocks text
 all-whole layout gives s first given [] after w next text back listed told = told.0
 all-whole layout gives s first given (l ∷ blocks) after w next text back listed told =
     let (mid, finding, rest, found, more, is) = told in

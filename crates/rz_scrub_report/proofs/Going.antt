@@ -4,7 +4,7 @@ use Rattle.rz_events.specs.Volume.{Volume}
 use Rattle.rz_events.specs.declared.keys.Key.{Key}
 use Rattle.rz_events.specs.declared.records.Held.{Held}
 use Rattle.rz_events.specs.declared.events.Event.{Event}
-use Rattle.rz_scrub_report.specs.Stores.{State, AreAsks, GoesOn, HasAsked}
+use Rattle.rz_scrub_report.specs.Stores.{State, AreAsks, IsOnlyAsked, HasAsked}
 
 asks-then : (xs ys : List Event) → AreAsks xs → AreAsks ys → AreAsks (xs ++ ys)
 asks-then [] ys p q = q
@@ -12,7 +12,7 @@ asks-then (x ∷ xs) ys p q = (p.0, asks-then xs ys p.1 q)
 
 module _ {S : Type 0} {is_open : S → Type 0} {described : S → Volume} {gives : S → ℕ → Key → Held → List ℕ → List ℕ → Type 0}
     {state : S → List Event → State} {counts : S → List Event → (ℕ → ℕ) → Type 0} {only_asked : S → S → Type 0} where
-  goes-then : ((a b c : S) → only_asked a b → only_asked b c → only_asked a c) → (a b c : S) (xs ys : List Event) → GoesOn is_open described gives state counts only_asked a b xs → GoesOn is_open described gives state counts only_asked b c ys → GoesOn is_open described gives state counts only_asked a c (ys ++ xs)
+  goes-then : ((a b c : S) → only_asked a b → only_asked b c → only_asked a c) → (a b c : S) (xs ys : List Event) → IsOnlyAsked is_open described gives state counts only_asked a b xs → IsOnlyAsked is_open described gives state counts only_asked b c ys → IsOnlyAsked is_open described gives state counts only_asked a c (ys ++ xs)
   goes-then join a b c xs ys p q = record {
     ready = q.ready;
     described_is = q.described_is ∙ p.described_is;
@@ -50,7 +50,7 @@ module _ {S : Type 0} {is_open : S → Type 0} {described : S → Volume} {gives
   }
 
   -- one ask
-  pub has-one : (a b : S) (x : Event) → AreAsks (x ∷ []) → GoesOn is_open described gives state counts only_asked a b (x ∷ []) → (T : State → State → Type 0) → ((h : List Event) → T (state a h) (state b (x ∷ h))) → HasAsked is_open described gives state counts only_asked a b T
+  pub has-one : (a b : S) (x : Event) → AreAsks (x ∷ []) → IsOnlyAsked is_open described gives state counts only_asked a b (x ∷ []) → (T : State → State → Type 0) → ((h : List Event) → T (state a h) (state b (x ∷ h))) → HasAsked is_open described gives state counts only_asked a b T
   has-one a b x asks onward T told = record { later = x ∷ []; asks = asks; onward = onward; told = told }
 
   -- what else is told of the same asks

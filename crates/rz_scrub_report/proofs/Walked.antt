@@ -22,9 +22,9 @@ use Rattle.rz_export_model.specs.Export.{Block, Export, is_after, listed_at, pub
 use Rattle.rz_export_model.specs.Firsts.{first_given, given_if}
 use Rattle.rz_export_model.specs.Tree.{file_of}
 use Rattle.rz_scrub_report.specs.declared.finding.Finding.{Finding}
-use Rattle.rz_scrub_report.specs.Asks.{IsFound}
+use Rattle.rz_scrub_report.specs.Asks.{AreRecordsFound}
 use Rattle.rz_scrub_report.specs.Lines.{line_of}
-use Rattle.rz_scrub_report.specs.Scrubs.{AreListed, AreTold, IsScrubbed}
+use Rattle.rz_scrub_report.specs.Scrubs.{AreListed, AreFindingsTold, IsScrubbed}
 use Rattle.rz_scrub_report.specs.Stores.{State}
 
 abbrev pub Entries : Type 0
@@ -120,13 +120,13 @@ falls s after l h = (falls-among s after l (maps.entries s.blocks) h).1
 
 abbrev pub IsSoFar : Layout → (ℕ → Key → Held → List ℕ → List ℕ → Type 0) → State → List ℕ → Option Key → State → Type 0
 IsSoFar layout gives first text after w = (blocks : List Listed) (rest : List ℕ) (next : State)
-    → AreListed first.export after blocks → AreTold layout gives blocks w rest next → IsScrubbed layout gives first (text ++ rest) next
+    → AreListed first.export after blocks → AreFindingsTold layout gives blocks w rest next → IsScrubbed layout gives first (text ++ rest) next
 
 pub none-yet : (layout : Layout) (gives : ℕ → Key → Held → List ℕ → List ℕ → Type 0) (first : State) → IsSoFar layout gives first [] None first
 none-yet layout gives first blocks rest next listed told = (blocks, listed, told)
 
 pub one-more : (layout : Layout) (gives : ℕ → Key → Held → List ℕ → List ℕ → Type 0) (first : State) (text text' : List ℕ) (after : Option Key) (w mid : State)
-    (l : Listed) (finding : Finding) → published_after first.export after ≡ Some l → IsFound layout gives l w finding mid
+    (l : Listed) (finding : Finding) → published_after first.export after ≡ Some l → AreRecordsFound layout gives l w finding mid
     → text' ≡ text ++ line_of layout l.key finding
     → IsSoFar layout gives first text after w → IsSoFar layout gives first text' (Some l.key) mid
 one-more layout gives first text text' after w mid l finding at found is so_far blocks rest next listed told =

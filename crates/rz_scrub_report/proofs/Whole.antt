@@ -10,7 +10,7 @@ use Rattle.rz_scrub.specs.Misfits.{are_other, is_misfit, misfits, projection_at,
 use Rattle.rz_scrub.specs.declared.verdict.Verdict.{Verdict}
 use Rattle.rz_scrub.specs.declared.verdict.Verdict.TheVariants.{Clean, Altered, Unsure}
 use Rattle.rz_scrub_report.specs.declared.finding.Finding.TheVariants.{Few, Judged}
-use Rattle.rz_scrub_report.specs.Findings.{IsVerdict, AreOf, IsWhole}
+use Rattle.rz_scrub_report.specs.Findings.{IsVerdict, AreOf, HasNothingAltered}
 
 -- bins that are there are these
 not-other : (xs : List ℕ) (o : Option (List ℕ)) → (is_some o ≡ true → o ≡ Some xs) → are_other xs o ≡ false
@@ -39,6 +39,6 @@ clean s g of Clean is = refl
 clean s g of (Altered mask) is = absurd (is.0 (fits s g of))
 clean s g of Unsure is = absurd (is (g, within s g of))
 
-pub whole : IsWhole
+pub whole : HasNothingAltered
 whole s g Few of is = inl refl
 whole s g (Judged v) of is = inr (ap Judged (clean s g of v is.1))

@@ -27,5 +27,5 @@ pub record AreOf (s : Records) (g : Grid) : Type 0 where
   pub each : (position : ℕ) → IsTrue (has_bins s position) → bins_at s position ≡ Some (projection_at s g position)
 
 -- records of a block are too few, or clean
-abbrev pub IsWhole : Type 0
-IsWhole = (s : Records) (g : Grid) (finding : Finding) → AreOf s g → IsFinding s finding → (finding ≡ Few) ⊎ (finding ≡ Judged Clean)
+abbrev pub HasNothingAltered : Type 0
+HasNothingAltered = (s : Records) (g : Grid) (finding : Finding) → AreOf s g → IsFinding s finding → (finding ≡ Few) ⊎ (finding ≡ Judged Clean)

@@ -8,7 +8,7 @@ use Rattle.rz_export_model.specs.Export.{Export, published_after}
 use Rattle.rz_scrub.specs.declared.verdict.Verdict.TheVariants.{Clean}
 use Rattle.rz_scrub_report.specs.declared.finding.Finding.{Finding}
 use Rattle.rz_scrub_report.specs.declared.finding.Finding.TheVariants.{Few, Judged}
-use Rattle.rz_scrub_report.specs.Asks.{IsFound}
+use Rattle.rz_scrub_report.specs.Asks.{AreRecordsFound}
 use Rattle.rz_scrub_report.specs.Lines.{line_of}
 use Rattle.rz_scrub_report.specs.Stores.{State}
 
@@ -18,15 +18,15 @@ AreListed s after [] = published_after s after ≡ None
 AreListed s after (l ∷ blocks) = (published_after s after ≡ Some l) × AreListed s (Some l.key) blocks
 
 -- the nodes of one block after the other are asked, and each has a line that says what is found
-abbrev pub AreTold : Layout → (ℕ → Key → Held → List ℕ → List ℕ → Type 0) → List Listed → State → List ℕ → State → Type 0
-AreTold layout gives [] w text next = (text ≡ []) × (next ≡ w)
-AreTold layout gives (l ∷ blocks) w text next =
-    (mid : State) × (finding : Finding) × (rest : List ℕ) × IsFound layout gives l w finding mid × AreTold layout gives blocks mid rest next
+abbrev pub AreFindingsTold : Layout → (ℕ → Key → Held → List ℕ → List ℕ → Type 0) → List Listed → State → List ℕ → State → Type 0
+AreFindingsTold layout gives [] w text next = (text ≡ []) × (next ≡ w)
+AreFindingsTold layout gives (l ∷ blocks) w text next =
+    (mid : State) × (finding : Finding) × (rest : List ℕ) × AreRecordsFound layout gives l w finding mid × AreFindingsTold layout gives blocks mid rest next
     × (text ≡ line_of layout l.key finding ++ rest)
 
 -- the lines of all published blocks of live files, in the order of their keys
 abbrev pub IsScrubbed : Layout → (ℕ → Key → Held → List ℕ → List ℕ → Type 0) → State → List ℕ → State → Type 0
-IsScrubbed layout gives w text next = (blocks : List Listed) × AreListed w.export None blocks × AreTold layout gives blocks w text next
+IsScrubbed layout gives w text next = (blocks : List Listed) × AreListed w.export None blocks × AreFindingsTold layout gives blocks w text next
 
 -- so it is of each published block of a live file
 abbrev pub EachListed : Export → (Listed → Type 0) → Type 0

@@ -24,16 +24,16 @@ pub record State : Type 0 where
 
 -- A node was asked for its record of a key with this stamp: it answers as its model says, or with a disk fault in the place of a
 -- record.
-pub record IsFetched (n : ℕ) (key : Key) (position stamp : ℕ) (given : FetchAnswer) (w next : State) : Type 0 where
+pub record IsAnsweredFetch (n : ℕ) (key : Key) (position stamp : ℕ) (given : FetchAnswer) (w next : State) : Type 0 where
   pub given_is : IsFetchAnswer (fetch_answer (w.nodes n) key stamp) given
   pub export : next.export ≡ w.export
   pub nodes : next.nodes ≡ (λ m. cond (m == n) (after_answer (ask.Fetch key position stamp) (answer.Fetch given) (w.nodes n)) (w.nodes m))
   pub events : next.events ≡ fetch_event Admin n key position stamp given ∷ w.events
 
 -- where a record is told, what is read of it lies in the room
-abbrev pub IsRead : (Held → List ℕ → List ℕ → Type 0) → FetchAnswer → List ℕ → List ℕ → Type 0
-IsRead reads (fetch.Held told) old room = reads told old room
-IsRead reads _ old room = Unit {0}
+abbrev pub AreBinsRead : (Held → List ℕ → List ℕ → Type 0) → FetchAnswer → List ℕ → List ℕ → Type 0
+AreBinsRead reads (fetch.Held told) old room = reads told old room
+AreBinsRead reads _ old room = Unit {0}
 
 -- these are events of the administrator's asks for records
 abbrev pub AreAsks : List Event → Type 0
@@ -42,7 +42,7 @@ AreAsks later =
 
 -- A store of which records were asked, by these events: it can be asked again, its disks give no other records than before, and what
 -- was so of its disks beside any events is so with the asks after them.
-pub record GoesOn {S : Type 0} (is_open : S → Type 0) (described : S → Volume) (gives : S → ℕ → Key → Held → List ℕ → List ℕ → Type 0)
+pub record IsOnlyAsked {S : Type 0} (is_open : S → Type 0) (described : S → Volume) (gives : S → ℕ → Key → Held → List ℕ → List ℕ → Type 0)
     (state : S → List Event → State) (counts : S → List Event → (ℕ → ℕ) → Type 0) (only_asked : S → S → Type 0) (old new : S) (later : List Event) : Type 0 where
   pub ready : is_open new
   pub described_is : described new ≡ described old
@@ -57,5 +57,5 @@ pub record HasAsked {S : Type 0} (is_open : S → Type 0) (described : S → Vol
     : Type 0 where
   pub later : List Event
   pub asks : AreAsks later
-  pub onward : GoesOn is_open described gives state counts only_asked old new later
+  pub onward : IsOnlyAsked is_open described gives state counts only_asked old new later
   pub told : (h : List Event) → Tells (state old h) (state new (later ++ h))

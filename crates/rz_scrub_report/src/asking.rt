@@ -4,7 +4,7 @@ ghost use Rattle.std.specs.Prelude.{◌≡◌, None, IfOk, length, take};
 ghost use Rattle.std.specs.Vec.{vec_len};
 ghost use Rattle.mj_angles.specs.Layout.{safe_of, inverse_of, cols_of, bins_at_of, max_bins_of};
 ghost use Rattle.rz_scrub.specs.Records.{bins_at, no_records, with_bins};
-ghost use Rattle.rz_scrub_report.specs.Asks.{AreAsked, IsAsked, IsFound};
+ghost use Rattle.rz_scrub_report.specs.Asks.{AreAsked, IsRecordAsked, AreRecordsFound};
 ghost use Rattle.rz_scrub_report.specs.Findings.{IsFinding};
 ghost use Rattle.rz_scrub_report.specs.Stores.{HasAsked};
 
@@ -81,7 +81,7 @@ fn ask<S: ScrubbedStore>(store: &mut S, desk: &mut Desk, listed: &Listed, positi
     requires layout { (S.described store.old).layout ≡ desk.old.layout }
     requires bare { bins_at desk.old.scrub position ≡ None }
     ensures desk { desk.new.layout ≡ desk.old.layout }
-    ensures asked { HasAsked S.is_open S.described S.gives S.state S.counts S.only_asked store.old store.new (λ w next. IsAsked (S.gives store.old) listed.now position node w next desk.old.scrub desk.new.scrub) }
+    ensures asked { HasAsked S.is_open S.described S.gives S.state S.counts S.only_asked store.old store.new (λ w next. IsRecordAsked (S.gives store.old) listed.now position node w next desk.old.scrub desk.new.scrub) }
 {
     let stamp = listed.published.stamp;
     let answer = store.fetch(node, listed.key, stamp, &mut desk.room);
@@ -109,7 +109,7 @@ pub(crate) fn find<S: ScrubbedStore>(store: &mut S, desk: &mut Desk, listed: &Li
     requires ready { S.is_open store.old }
     requires layout { (S.described store.old).layout ≡ desk.old.layout }
     ensures desk { desk.new.layout ≡ desk.old.layout }
-    ensures found { HasAsked S.is_open S.described S.gives S.state S.counts S.only_asked store.old store.new (λ w next. IsFound desk.old.layout (S.gives store.old) listed.now w result next) }
+    ensures found { HasAsked S.is_open S.described S.gives S.state S.counts S.only_asked store.old store.new (λ w next. AreRecordsFound desk.old.layout (S.gives store.old) listed.now w result next) }
 {
     desk.clear();
     gather(store, desk, listed);

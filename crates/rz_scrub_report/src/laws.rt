@@ -3,8 +3,8 @@
 ghost use Rattle.std.specs.Prelude.{◌≡◌, ◌⊎◌, ℕ, List, None};
 ghost use Rattle.rz_events.specs.declared.files.Listed.{Listed};
 ghost use Rattle.rz_words.specs.Grid.{Grid};
-ghost use Rattle.rz_scrub_report.specs.Asks.{AreGiven, IsFound};
-ghost use Rattle.rz_scrub_report.specs.Findings.{IsWhole};
+ghost use Rattle.rz_scrub_report.specs.Asks.{AreGiven, AreRecordsFound};
+ghost use Rattle.rz_scrub_report.specs.Findings.{HasNothingAltered};
 ghost use Rattle.rz_scrub_report.specs.Scrubs.{AreListed, AreUnaltered, EachListed, IsScrubbed};
 ghost use Rattle.rz_scrub_report.specs.Stores.{State};
 
@@ -15,14 +15,14 @@ use rz_scrub::Verdict;
 /// The law that no record counts as altered, and no verdict is unsure, where all records are those of
 /// one block.
 pub fn whole_records()
-    ensures { IsWhole }
+    ensures { HasNothingAltered }
 {}
 
 /// The law that too few records are found of a block, or that it is clean, where the nodes give the
 /// projections of one block of words.
 pub fn whole_blocks<S: ScrubbedStore>()
     ensures { (s : S) (l : Listed) (g : Grid) (w next : State) (finding : Finding) → AreGiven (S.described s).layout (S.gives s) w.nodes l g
-        → IsFound (S.described s).layout (S.gives s) l w finding next → (finding ≡ Finding.Few) ⊎ (finding ≡ Finding.Judged Verdict.Clean) }
+        → AreRecordsFound (S.described s).layout (S.gives s) l w finding next → (finding ≡ Finding.Few) ⊎ (finding ≡ Finding.Judged Verdict.Clean) }
 {}
 
 /// The law that so it is of each line of a scrub, where the nodes of each block give such records.

@@ -9,7 +9,7 @@ ghost use Rattle.rz_events.specs.declared.keys.Key.{Key};
 ghost use Rattle.rz_events.specs.declared.records.Held.{Held};
 ghost use Rattle.rz_export_model.specs.Export.{published_after};
 ghost use Rattle.rz_node_model.specs.NodeEvents.{fetch_event};
-ghost use Rattle.rz_scrub_report.specs.Stores.{GoesOn, IsFetched, IsRead, State};
+ghost use Rattle.rz_scrub_report.specs.Stores.{IsOnlyAsked, IsAnsweredFetch, AreBinsRead, State};
 
 use mj_angles::Layout;
 use rz_events::{FetchAnswer, Key, Listed};
@@ -55,7 +55,7 @@ pub trait ScrubbedStore {
     fn fetch(&mut self, node: u16, key: Key, stamp: u64, room: &mut [u64]) -> FetchAnswer
         requires ready { is_open self.old }
         requires room { max_bins_of (described self.old).layout ≤ length room.old }
-        ensures fetched { (position : ℕ) (h : List Event) → IsFetched node key position stamp result (state self.old h) (state self.new (fetch_event Admin node key position stamp result ∷ h)) }
-        ensures read { IsRead (gives self.old node key) result room.old room.new }
-        ensures onward { (position : ℕ) → GoesOn is_open described gives state counts only_asked self.old self.new (fetch_event Admin node key position stamp result ∷ []) };
+        ensures fetched { (position : ℕ) (h : List Event) → IsAnsweredFetch node key position stamp result (state self.old h) (state self.new (fetch_event Admin node key position stamp result ∷ h)) }
+        ensures read { AreBinsRead (gives self.old node key) result room.old room.new }
+        ensures onward { (position : ℕ) → IsOnlyAsked is_open described gives state counts only_asked self.old self.new (fetch_event Admin node key position stamp result ∷ []) };
 }

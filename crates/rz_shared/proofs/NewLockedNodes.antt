@@ -14,7 +14,7 @@ use Rattle.rz_nodes.specs.declared.formatting.Server.{Server}
 use Rattle.rz_nodes.specs.Formatted.{AreFormatted, AreBack, IsBack}
 use Rattle.rz_nodes.proofs.FormatLemmas.{same-back}
 use Rattle.rz_nodes.proofs.Rowwise.{zip-same}
-use Rattle.rz_shared.specs.Seating.{IsReady}
+use Rattle.rz_shared.specs.Seating.{IsNodeReady}
 use Rattle.rz_shared.proofs.Readiness.{ready-all}
 
 module _ {D : Type 0} (tells : Bool) (meter : D → Meter) (image : D → List ℕ → Type 0) where
@@ -25,12 +25,12 @@ module _ {D : Type 0} (tells : Bool) (meter : D → Meter) (image : D → List �
   -- all nodes of the book's volume are ready
   pub all-ready : (text : D → List ℕ) (first : ℕ → ℕ) (v w : Volume) (layout : Layout) (nodes : List NodeSpec) (disks : List D) (servers : List (Server (UnderFuse D))) (word_tokens : List WordTokenView) → v ≡ w → IsVolume v → layout ≡ v.layout
       → nodes ≡ nodes_of v.clusters → length disks ≡ length (nodes_of v.clusters) → map first (sids_of v) ≡ map (λ (d : D). faults (meter d)) disks → AreFormatted tells meter text image layout nodes disks servers → word_tokens ≡ map (λ k. new_word_token (Node k)) (sids_of v)
-      → AllZip (IsReady tells meter text image w first) servers word_tokens
+      → AllZip (IsNodeReady tells meter text image w first) servers word_tokens
   all-ready text first v w layout nodes disks servers word_tokens same rules layout_is nodes_are count had made word_tokens_are =
       let here : AreFormatted tells meter text image v.layout (nodes_of v.clusters) disks servers =
       subst (λ (ns : List NodeSpec). AreFormatted tells meter text image v.layout ns disks servers) nodes_are
       (subst (λ (l : Layout). AreFormatted tells meter text image l nodes disks servers) layout_is made) in
-      subst (λ (u : Volume). AllZip (IsReady tells meter text image u first) servers word_tokens) same (ready-all tells meter text image v first rules disks servers word_tokens count had here word_tokens_are)
+      subst (λ (u : Volume). AllZip (IsNodeReady tells meter text image u first) servers word_tokens) same (ready-all tells meter text image v first rules disks servers word_tokens count had here word_tokens_are)
 
   -- as many nodes are made as there are
   pub made-length : (text : D → List ℕ) (layout : Layout) (nodes : List NodeSpec) (disks : List D) (servers : List (Server (UnderFuse D))) → length disks ≡ length nodes → AreFormatted tells meter text image layout nodes disks servers → length servers ≡ length nodes

@@ -17,9 +17,9 @@ use Rattle.rz_chronicle.specs.Rules.{WordTokenView}
 use Rattle.rz_chronicle.specs.Dealing.{new_word_token}
 use Rattle.rz_chronicle.specs.Keys.{sids_of}
 use Rattle.rz_nodes.specs.declared.formatting.Server.{Server}
-use Rattle.rz_nodes.specs.Formatted.{geometry_of, IsFormatted, AreFormatted}
+use Rattle.rz_nodes.specs.Formatted.{geometry_of, IsNodeFormatted, AreFormatted}
 use Rattle.rz_shared.specs.Arranged.{sids}
-use Rattle.rz_shared.specs.Seating.{IsReady}
+use Rattle.rz_shared.specs.Seating.{IsNodeReady}
 
 -- A node is one of the volume's, with the cells of its number.
 
@@ -72,9 +72,9 @@ word_tokens-are (n ∷ specs) = ap (λ (ps : List WordTokenView). word_token_of 
 
 module _ {D : Type 0} (tells : Bool) (meter : D → Meter) (text : D → List ℕ) (image : D → List ℕ → Type 0) (v : Volume) (first : ℕ → ℕ) where
   abbrev pub Made : NodeSpec × D → Server (UnderFuse D) → Type 0
-  Made = IsFormatted tells meter text image v.layout
+  Made = IsNodeFormatted tells meter text image v.layout
 
-  ready-one : (n : NodeSpec) (d : D) (s : Server (UnderFuse D)) → IsDescribed v n → first n.sid ≡ faults (meter d) → Made (n, d) s → IsReady tells meter text image v first s (word_token_of n)
+  ready-one : (n : NodeSpec) (d : D) (s : Server (UnderFuse D)) → IsDescribed v n → first n.sid ≡ faults (meter d) → Made (n, d) s → IsNodeReady tells meter text image v first s (word_token_of n)
   ready-one n d s it had made =
       let same : geometry_of v.layout n ≡ geometry_in v s.sid = ap (λ (c : ℕ). record { layout = v.layout; bsize = bsize_of v.layout; node = n.sid; cells = c }) (sym it.cells) ∙ ap (geometry_in v) (sym made.number) in
       record {
@@ -89,7 +89,7 @@ module _ {D : Type 0} (tells : Bool) (meter : D → Meter) (text : D → List �
       }
 
   ready-each : (specs : List NodeSpec) (disks : List D) (servers : List (Server (UnderFuse D))) → length disks ≡ length specs → map first (sids specs) ≡ map (λ (d : D). faults (meter d)) disks → AllByRecursion (IsDescribed v) specs → AllZip Made (zip specs disks) servers
-      → AllZip (IsReady tells meter text image v first) servers (map word_token_of specs)
+      → AllZip (IsNodeReady tells meter text image v first) servers (map word_token_of specs)
   ready-each [] [] [] count had each all = tt
   ready-each [] [] (s ∷ servers) count had each all = absurd all
   ready-each [] (d ∷ disks) servers count had each all = absurd (omega (arith, count))
@@ -107,6 +107,6 @@ module _ {D : Type 0} (tells : Bool) (meter : D → Meter) (text : D → List �
 
   -- all of them
   pub ready-all : (rules : IsVolume v) (disks : List D) (servers : List (Server (UnderFuse D))) (word_tokens : List WordTokenView) → length disks ≡ length (nodes_of v.clusters) → map first (sids_of v) ≡ map (λ (d : D). faults (meter d)) disks
-      → AreFormatted tells meter text image v.layout (nodes_of v.clusters) disks servers → word_tokens ≡ map (λ k. new_word_token (Node k)) (sids_of v) → AllZip (IsReady tells meter text image v first) servers word_tokens
+      → AreFormatted tells meter text image v.layout (nodes_of v.clusters) disks servers → word_tokens ≡ map (λ k. new_word_token (Node k)) (sids_of v) → AllZip (IsNodeReady tells meter text image v first) servers word_tokens
   ready-all rules disks servers word_tokens count had all is =
-      subst (AllZip (IsReady tells meter text image v first) servers) (sym (is ∙ word_tokens-are (nodes_of v.clusters))) (ready-each (nodes_of v.clusters) disks servers count had (described v rules) all)
+      subst (AllZip (IsNodeReady tells meter text image v first) servers) (sym (is ∙ word_tokens-are (nodes_of v.clusters))) (ready-each (nodes_of v.clusters) disks servers count had (described v rules) all)

@@ -16,7 +16,7 @@ use Rattle.rz_node_laws.specs.Images.{geometry_in}
 
 -- A node of the volume on a disk that was formatted for it and is not armed, whose one image is its text, and whose count of faults
 -- did not fall since it was `first` of that node; and the token of its word, which has no event.
-pub record IsReady {D : Type 0} (tells : Bool) (meter : D → Meter) (text : D → List ℕ) (image : D → List ℕ → Type 0) (v : Volume) (first : ℕ → ℕ) (s : Server (UnderFuse D)) (word_token : WordTokenView) : Type 0 where
+pub record IsNodeReady {D : Type 0} (tells : Bool) (meter : D → Meter) (text : D → List ℕ) (image : D → List ℕ → Type 0) (v : Volume) (first : ℕ → ℕ) (s : Server (UnderFuse D)) (word_token : WordTokenView) : Type 0 where
   pub word_token_is : word_token ≡ new_word_token (Node s.sid)
   pub of_volume : IsNodeOf v s.sid
   pub geometry : s.node.geometry ≡ geometry_in v s.sid

@@ -16,7 +16,7 @@ ghost use Rattle.rz_core.specs.Tied.{IsProperCall};
 ghost use Rattle.rz_chronicle.specs.Keys.{count_at, word_key};
 ghost use Rattle.rz_chronicle.specs.Kinds.{IsFit, MayCome, is_honest, volume_in};
 ghost use Rattle.rz_chronicle.specs.Holds.{Commits};
-ghost use Rattle.rz_shared_locked.specs.LockedNodes.{MayAsk, IsFor, Answered, IsRead};
+ghost use Rattle.rz_shared_locked.specs.LockedNodes.{MayAsk, IsAskerRight, Answered, IsTrueRecord};
 ghost use Rattle.rz_shared_locked.specs.LockedExports.{AreBytes, Replied};
 
 use crate::room::ClosingRoom;
@@ -88,11 +88,11 @@ impl<D: Disk, J: Counting> Cluster<D, J> {
     ) -> NodeAnswer
         requires node { IsNodeOf (volume_in J.kind) node }
         requires takes { Takes (volume_in J.kind).layout ask.now bins.old }
-        requires actor { IsFor pass.old.actor ask.now }
+        requires actor { IsAskerRight pass.old.actor ask.now }
         requires may { IsTrue (is_honest J.kind) → MayAsk (volume_in J.kind) pass.old.log pass.old.actor node ask.now bins.old }
         ensures same { (pass.new.actor ≡ pass.old.actor) × (pass.new.keys ≡ pass.old.keys) }
         ensures answered { Answered J.kind node ask.now result (node_event pass.old.actor node ask.now result) pass.old.keys pass.old.log pass.new.log }
-        ensures read { IsTrue (is_honest J.kind) → IsRead (volume_in J.kind) (facts pass.new.log) node ask.now result bins.old bins.new }
+        ensures read { IsTrue (is_honest J.kind) → IsTrueRecord (volume_in J.kind) (facts pass.new.log) node ask.now result bins.old bins.new }
 
         // The caller's bins are written where a record was read, and not behind the most bins that one has.
         ensures unread { IsUnread result → bins.new ≡ bins.old }

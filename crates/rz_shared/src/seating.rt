@@ -3,7 +3,7 @@ ghost use Rattle.std.specs.Prelude.{◌≡◌, ◌≤◌, IsTrue};
 ghost use Rattle.std.specs.List.{AllZip};
 ghost use Rattle.std.specs.Vec.{vec_len, vec_capacity};
 ghost use Rattle.rz_chronicle.specs.Kinds.{is_honest, volume_in};
-ghost use Rattle.rz_shared.specs.Seating.{IsReady};
+ghost use Rattle.rz_shared.specs.Seating.{IsNodeReady};
 
 use crate::{Counting, LockedNode};
 use rz_chronicle::WordToken;
@@ -19,7 +19,7 @@ pub(crate) fn locked_node_all<D: Disk, J: Counting>(
     word_tokens: Vec<WordToken<J>>,
     room: Vec<Mutex<LockedNode<Fused<D>, J>>>,
 ) -> (Vec<Mutex<LockedNode<Fused<D>, J>>>, Vec<WordToken<J>>)
-    requires ready { AllZip (IsReady D.tells D.meter D.text D.image (volume_in J.kind) J.first) servers.items word_tokens.items }
+    requires ready { AllZip (IsNodeReady D.tells D.meter D.text D.image (volume_in J.kind) J.first) servers.items word_tokens.items }
     requires tells { IsTrue (is_honest J.kind) → IsTrue D.tells }
     requires room { (vec_len room ≡ 0) × (vec_len servers ≤ vec_capacity room) }
     ensures count { vec_len result.0 ≡ vec_len servers }
@@ -46,7 +46,7 @@ fn seated<D: Disk, J: Counting>(
     server: Server<Fused<D>>,
     word_token: WordToken<J>,
 ) -> Mutex<LockedNode<Fused<D>, J>>
-    requires ready { IsReady D.tells D.meter D.text D.image (volume_in J.kind) J.first server word_token }
+    requires ready { IsNodeReady D.tells D.meter D.text D.image (volume_in J.kind) J.first server word_token }
     requires tells { IsTrue (is_honest J.kind) → IsTrue D.tells }
 {
     Mutex::new(LockedNode::new(alloc, server.sid, server.node, word_token))

@@ -24,7 +24,7 @@ use Rattle.rz_node_model.specs.Answers.{IsNodeAnswer}
 use Rattle.rz_node_model.specs.Afterwards.{after_answer}
 use Rattle.rz_node_model.specs.NodeEvents.{node_event, keep_event, refill_event, fetch_event, drop_event}
 use Rattle.rz_core.specs.Tied.{IsOpening}
-use Rattle.rz_shared_locked.specs.LockedNodes.{IsFor}
+use Rattle.rz_shared_locked.specs.LockedNodes.{IsAskerRight}
 
 abbrev pub IsOf : Actor → ℕ → Event → Type 0
 IsOf by node x = (word_of x ≡ Node node) × (by_of x ≡ by)
@@ -67,7 +67,7 @@ drop-of by node fid (drop.DiskFault block stamp) = (refl, refl)
 moved : (by : Actor) (node : ℕ) (a x : Event) → Some a ≡ Some x → IsOf by node a → IsOf by node x
 moved by node a x e i = subst (IsOf by node) (the_some a x e) i
 
-pub event-of : (by : Actor) (node : ℕ) (question : NodeAsk) (given : NodeAnswer) (x : Event) → IsFor by question → node_event by node question given ≡ Some x → IsOf by node x
+pub event-of : (by : Actor) (node : ℕ) (question : NodeAsk) (given : NodeAnswer) (x : Event) → IsAskerRight by question → node_event by node question given ≡ Some x → IsOf by node x
 event-of by node (ask.Keep head) (answer.Keep given) x who is = moved by node _ x is (keep-of by node head.key head.stamp head.position given)
 event-of by node (ask.Fetch key position stamp) (answer.Fetch given) x who is = moved by node _ x is (fetch-of by node key position stamp given)
 event-of by node (ask.Refill fence head) (answer.Refill given) x who is = moved by node _ x is (refill-of by node fence head.key head.stamp head.position given)

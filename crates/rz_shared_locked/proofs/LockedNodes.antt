@@ -23,8 +23,8 @@ use Rattle.rz_node_laws.specs.Laws.{IsLongerLaw}
 use Rattle.rz_chronicle.specs.Keys.{IsLater, IsOneOf, events_at, count_at, word_key, actor_key}
 use Rattle.rz_chronicle.specs.Kinds.{IsFit, MayCome, is_honest, volume_in}
 use Rattle.rz_shared_locked.specs.Adding.{Adds}
-use Rattle.rz_shared_locked.specs.LockedNodes.{IsLogged, MayAsk, IsFor, IsAnswerAt, Answered}
-use Rattle.rz_shared_locked.specs.Laws.{IsLockedNodeKept, IsStep, IsAnswerLaw}
+use Rattle.rz_shared_locked.specs.LockedNodes.{IsLogged, MayAsk, IsAskerRight, IsAnswerAt, Answered}
+use Rattle.rz_shared_locked.specs.Laws.{IsLockedNodeKept, IsAllowedLater, IsAnswerLaw}
 use Rattle.rz_shared_locked.proofs.Logs.{later-trans, later-event, adds-fewer}
 use Rattle.rz_shared_locked.proofs.Events.{event-of, event-none}
 use Rattle.rz_shared_locked.proofs.Lasting.{AreWordsKept}
@@ -51,7 +51,7 @@ entered image kind n node old new kept fit later same logged honest = kept old n
 -- What is known once a node has answered: `h` is the log that the pass and the locked node have seen.
 pub record Served (kind : List ℕ) (h : List Event) (by : Actor) (n : ℕ) (question : NodeAsk) (given : NodeAnswer) (s : NodeState) : Type 0 where
   pub of_volume : IsNodeOf (volume_in kind) n
-  pub asker : IsFor by question
+  pub asker : IsAskerRight by question
   pub fit : IsFit kind h
   pub tied : IsTrue (is_honest kind) → IsNode (facts h) (of_word (Node n) h) s
   pub room : count_at (word_key (Node n)) h + 1 < 2 ^ 64
@@ -59,7 +59,7 @@ pub record Served (kind : List ℕ) (h : List Event) (by : Actor) (n : ℕ) (que
   pub opening : IsTrue (is_honest kind) → IsOpening given
 
 module _ (kind : List ℕ) (h : List Event) (by : Actor) (n : ℕ) (question : NodeAsk) (given : NodeAnswer) (s : NodeState) (bins : List ℕ) (answers : IsAnswerLaw (volume_in kind)) (it : Served kind h by n question given s) (may : IsTrue (is_honest kind) → MayAsk (volume_in kind) h by n question bins) where
-  pub step-of : (x : Event) → node_event by n question given ≡ Some x → IsTrue (is_honest kind) → IsStep (volume_in kind) h by n x (after_answer question given s)
+  pub step-of : (x : Event) → node_event by n question given ≡ Some x → IsTrue (is_honest kind) → IsAllowedLater (volume_in kind) h by n x (after_answer question given s)
   step-of x is honest = answers h by n question s given x (record { legal = it.fit honest; of_volume = it.of_volume; tied = it.tied honest; room = it.room }) (may honest).proper it.right (it.opening honest) is
 
   -- the event may be added
@@ -102,7 +102,7 @@ module _ (kind : List ℕ) (h : List Event) (by : Actor) (n : ℕ) (question : N
     answered = record { adds = adds-fewer (word_key (Node n)) ks h new (node_event by n question given) adds; right = right-at }
 
 -- A fuse that was armed leaves the node as the log gives it.
-pub armed-logged : {D : Type 0} (image : D → List ℕ → Type 0) (v : Volume) (h : List Event) (by : Actor) (n : ℕ) (x : Event) (was after : NodeView D) → IsStep v h by n x was.state → IsLongerLaw image
+pub armed-logged : {D : Type 0} (image : D → List ℕ → Type 0) (v : Volume) (h : List Event) (by : Actor) (n : ℕ) (x : Event) (was after : NodeView D) → IsAllowedLater v h by n x was.state → IsLongerLaw image
     → IsImaged v (facts h) n was.state was.geometry (image after.disk) → after.state ≡ was.state → after.geometry ≡ was.geometry → (ks : List ℕ) (new : List Event) → Adds (word_key (Node n) ∷ ks) h (Some x) new
     → IsOneOf (actor_key by) ks → IsLegal v new → IsLogged image v new n after
 armed-logged image v h by n x was after step longer imaged state geometry ks new adds own legal =

@@ -20,7 +20,7 @@ use Rattle.rz_core.specs.NodeRows.{cells_of, IsNodeOf}
 use Rattle.rz_core.specs.Legal.{IsLegal, IsAllowed}
 use Rattle.rz_core.specs.Tied.{IsNode, IsProperAsk, IsOpening, IsExport, IsProperCall}
 use Rattle.rz_chronicle.specs.Keys.{IsLater, events_at, count_at, word_key, actor_key}
-use Rattle.rz_shared_locked.specs.LockedNodes.{IsLogged, MayAsk, IsRead}
+use Rattle.rz_shared_locked.specs.LockedNodes.{IsLogged, MayAsk, IsTrueRecord}
 
 -- Nodes.
 
@@ -37,10 +37,10 @@ IsAskerKept v = (old new : List Event) (by : Actor) (n : ℕ) (question : NodeAs
 -- What was read of a write is still so in a longer log.
 abbrev pub IsReadKept : Volume → Type 0
 IsReadKept v = (old new : List Event) (n : ℕ) (question : NodeAsk) (given : NodeAnswer) (bins bins' : List ℕ) → IsLater old new
-    → IsRead v (facts old) n question given bins bins' → IsRead v (facts new) n question given bins bins'
+    → IsTrueRecord v (facts old) n question given bins bins' → IsTrueRecord v (facts new) n question given bins bins'
 
 -- The event is allowed after the history. Whatever others add before it, the state is the one that the log with it gives.
-pub record IsStep (v : Volume) (h : List Event) (by : Actor) (n : ℕ) (x : Event) (after : NodeState) : Type 0 where
+pub record IsAllowedLater (v : Volume) (h : List Event) (by : Actor) (n : ℕ) (x : Event) (after : NodeState) : Type 0 where
   pub allowed : IsAllowed v h x
   pub tied : (before : List Event) → IsLater h before → events_at (word_key (Node n)) before ≡ events_at (word_key (Node n)) h
       → events_at (actor_key by) before ≡ events_at (actor_key by) h → IsLegal v (x ∷ before)
@@ -57,11 +57,11 @@ pub record IsLockedNodeAt (v : Volume) (h : List Event) (n : ℕ) (s : NodeState
 abbrev pub IsAnswerLaw : Volume → Type 0
 IsAnswerLaw v = (h : List Event) (by : Actor) (n : ℕ) (question : NodeAsk) (s : NodeState) (given : NodeAnswer) (x : Event) → IsLockedNodeAt v h n s
     → IsProperAsk v (facts h) (of_actor by h) by n question → IsNodeAnswer (cells_of v n) s question given → IsOpening given
-    → node_event by n question given ≡ Some x → IsStep v h by n x (after_answer question given s)
+    → node_event by n question given ≡ Some x → IsAllowedLater v h by n x (after_answer question given s)
 
 -- So may that of an arming.
 abbrev pub IsArmLaw : Volume → Type 0
-IsArmLaw v = (h : List Event) (by : Actor) (n k pick : ℕ) (s : NodeState) → IsLockedNodeAt v h n s → IsStep v h by n (e.Armed n k pick) s
+IsArmLaw v = (h : List Event) (by : Actor) (n k pick : ℕ) (s : NodeState) → IsLockedNodeAt v h n s → IsAllowedLater v h by n (e.Armed n k pick) s
 
 -- The export.
 

@@ -44,11 +44,11 @@ pub record MayAsk (v : Volume) (h : List Event) (by : Actor) (n : ℕ) (question
   pub hands : HandsRecord v (facts h) n question bins
 
 -- the administrator alone stops, starts and loses a node, and it does nothing else with one
-abbrev pub IsFor : Actor → NodeAsk → Type 0
-IsFor by ask.Stop = by ≡ Admin
-IsFor by ask.Start = by ≡ Admin
-IsFor by ask.Lose = by ≡ Admin
-IsFor by _ = ¬ (by ≡ Admin)
+abbrev pub IsAskerRight : Actor → NodeAsk → Type 0
+IsAskerRight by ask.Stop = by ≡ Admin
+IsAskerRight by ask.Start = by ≡ Admin
+IsAskerRight by ask.Lose = by ≡ Admin
+IsAskerRight by _ = ¬ (by ≡ Admin)
 
 -- Some node answers so; over an honest book it is the one that the log gives, and its disk did not refuse to open but for a
 -- disk fault.
@@ -65,6 +65,6 @@ pub record Answered (kind : List ℕ) (n : ℕ) (question : NodeAsk) (given : No
   pub right : IsAnswerAt kind adds.before n question given
 
 -- a record that was fetched is that of its write, with its bins
-abbrev pub IsRead : Volume → Facts → ℕ → NodeAsk → NodeAnswer → List ℕ → List ℕ → Type 0
-IsRead v f n (ask.Fetch key position stamp) (answer.Fetch (fetch.Held told)) bins bins' = IsReadBack v f n key told bins bins'
-IsRead v f n question given bins bins' = Unit {0}
+abbrev pub IsTrueRecord : Volume → Facts → ℕ → NodeAsk → NodeAnswer → List ℕ → List ℕ → Type 0
+IsTrueRecord v f n (ask.Fetch key position stamp) (answer.Fetch (fetch.Held told)) bins bins' = IsReadBack v f n key told bins bins'
+IsTrueRecord v f n question given bins bins' = Unit {0}

@@ -17,7 +17,7 @@ ghost use Rattle.rz_chronicle.specs.Kinds.{IsFit, is_honest, volume_in};
 ghost use Rattle.rz_chronicle.specs.Holds.{Commits, Stays};
 ghost use Rattle.rz_chronicle.specs.Dealing.{new_word_token};
 ghost use Rattle.rz_shared_locked.specs.Counts.{AreCountedSince};
-ghost use Rattle.rz_shared_locked.specs.LockedNodes.{MayAsk, IsFor, Answered, AreImagesFrom, IsRead};
+ghost use Rattle.rz_shared_locked.specs.LockedNodes.{MayAsk, IsAskerRight, Answered, AreImagesFrom, IsTrueRecord};
 
 use crate::adding::add;
 use crate::counting::{Counting, left_with};
@@ -139,12 +139,12 @@ impl<D: Disk, J: Counting> LockedNode<D, J> {
         bins: &mut [u64],
     ) -> NodeAnswer
         requires takes { Takes (volume_in J.kind).layout ask.now bins.old }
-        requires actor { IsFor pass.old.actor ask.now }
+        requires actor { IsAskerRight pass.old.actor ask.now }
         requires may { IsTrue (is_honest J.kind) → MayAsk (volume_in J.kind) pass.old.log pass.old.actor node ask.now bins.old }
         ensures locked_node { self.new.node ≡ self.old.node }
         ensures same { (pass.new.actor ≡ pass.old.actor) × (pass.new.keys ≡ pass.old.keys) }
         ensures answered { Answered J.kind node ask.now result (model.node_event pass.old.actor node ask.now result) pass.old.keys pass.old.log pass.new.log }
-        ensures read { IsTrue (is_honest J.kind) → IsRead (volume_in J.kind) (facts pass.new.log) node ask.now result bins.old bins.new }
+        ensures read { IsTrue (is_honest J.kind) → IsTrueRecord (volume_in J.kind) (facts pass.new.log) node ask.now result bins.old bins.new }
 
         // The caller's bins are written where a record was read, and not behind the most bins that one has.
         ensures unread { IsUnread result → bins.new ≡ bins.old }
@@ -212,12 +212,12 @@ impl<D: Disk, J: Counting> LockedNode<D, J> {
         requires one { self.old.log ≡ pass.old.log }
         requires room { count_at (word_key (w.Node self.old.node)) self.old.log + 1 < 2 ^ 64 }
         requires takes { Takes (volume_in J.kind).layout ask.now bins.old }
-        requires actor { IsFor pass.old.actor ask.now }
+        requires actor { IsAskerRight pass.old.actor ask.now }
         requires may { IsTrue (is_honest J.kind) → MayAsk (volume_in J.kind) pass.old.log pass.old.actor self.old.node ask.now bins.old }
         ensures locked_node { self.new.node ≡ self.old.node }
         ensures same { (pass.new.actor ≡ pass.old.actor) × (pass.new.keys ≡ pass.old.keys) }
         ensures answered { Answered J.kind self.old.node ask.now result (model.node_event pass.old.actor self.old.node ask.now result) pass.old.keys pass.old.log pass.new.log }
-        ensures read { IsTrue (is_honest J.kind) → IsRead (volume_in J.kind) (facts pass.new.log) self.old.node ask.now result bins.old bins.new }
+        ensures read { IsTrue (is_honest J.kind) → IsTrueRecord (volume_in J.kind) (facts pass.new.log) self.old.node ask.now result bins.old bins.new }
         ensures unread { IsUnread result → bins.new ≡ bins.old }
         ensures rest { drop (max_bins_of (volume_in J.kind).layout) bins.new ≡ drop (max_bins_of (volume_in J.kind).layout) bins.old }
         ensures fit { IsFit J.kind pass.new.log }

@@ -22,7 +22,7 @@ ghost use Rattle.rz_node_laws.specs.Records.{HandsRecord};
 ghost use Rattle.rz_node_laws.specs.Images.{IsImaged};
 ghost use Rattle.rz_shared_locked.specs.Counts.{GoesWith, rearmed};
 ghost use Rattle.rz_shared_locked.specs.Picks.{pick_of};
-ghost use Rattle.rz_shared_locked.specs.LockedNodes.{IsRead};
+ghost use Rattle.rz_shared_locked.specs.LockedNodes.{IsTrueRecord};
 
 use rz_chronicle::{Naming, WordToken};
 use rz_disk::Disk;
@@ -54,7 +54,7 @@ pub(crate) fn serve<D: Disk, J: Naming>(
     ensures crashed { ask.now ≡ NodeAsk.Start → node.old.state.phase ≡ Phase.Down → D.picks node.old.disk (pick_of (of_word (word.Node sid) word_token.now.log)) (D.text node.new.disk) }
 
     ensures imaged { IsTrue D.tells → (v : Volume) (f : Facts) (n : ℕ) → HandsRecord v f n ask.now bins.old → IsImaged v f n node.old.state node.old.geometry (D.image node.old.disk) → IsImaged v f n node.new.state node.new.geometry (D.image node.new.disk) }
-    ensures read { IsTrue D.tells → (v : Volume) (f : Facts) (n : ℕ) → IsImaged v f n node.old.state node.old.geometry (D.image node.old.disk) → IsRead v f n ask.now result bins.old bins.new }
+    ensures read { IsTrue D.tells → (v : Volume) (f : Facts) (n : ℕ) → IsImaged v f n node.old.state node.old.geometry (D.image node.old.disk) → IsTrueRecord v f n ask.now result bins.old bins.new }
     ensures unread { IsUnread result → bins.new ≡ bins.old }
     ensures rest { drop (max_bins_of node.old.geometry.layout) bins.new ≡ drop (max_bins_of node.old.geometry.layout) bins.old }
     ensures counts { (first n : ℕ) (w : List AnEvent) (by : AnActor) → left ≡ fuse_of w → GoesWith D.meter first w node.old → GoesWith D.meter first (noted (node_event by n ask.now result) w) node.new }

@@ -17,8 +17,8 @@ use Rattle.rz_script.specs.declared.line.Line.TheVariants as line
 use Rattle.rz_play.specs.Lines.{noted}
 use Rattle.rz_chronicle.specs.Keys.{IsLater, IsOneOf, events_at, actor_key}
 use Rattle.rz_chronicle.specs.Holds.{Stays}
-use Rattle.rz_shared_locked.specs.LockedNodes.{Answered, IsFor}
-use Rattle.rz_threads.specs.Orders.{IsOrder, is_want, Waits, IsCalled, IsArmed, IsDone, AreDone, AreBegun}
+use Rattle.rz_shared_locked.specs.LockedNodes.{Answered, IsAskerRight}
+use Rattle.rz_threads.specs.Orders.{IsAdminAsk, is_want, Waits, IsNodeCalled, IsArmingDone, IsLineDone, AreDone, AreLinesBegun}
 
 -- Waiting.
 
@@ -37,7 +37,7 @@ abbrev pub AreKept : Type 0
 AreKept = (a : Actor) (h g : List Event) → events_at (actor_key a) h ≡ events_at (actor_key a) g → of_actor a h ≡ of_actor a g
 
 -- the administrator alone calls a node so
-pub for-admin : (question : NodeAsk) → IsOrder question → IsFor Admin question
+pub for-admin : (question : NodeAsk) → IsAdminAsk question → IsAskerRight Admin question
 for-admin ask.Stop is = refl
 for-admin ask.Start is = refl
 for-admin ask.Lose is = refl
@@ -56,7 +56,7 @@ pub waits-kept : AreKept → (ks : List ℕ) → IsOneOf (actor_key Admin) ks �
 waits-kept kept ks has old new later stays = record { later = later; own = kept Admin new old (stays (actor_key Admin) has) }
 
 pub called : AreKept → (kind ks : List ℕ) → IsOneOf (actor_key Admin) ks → (n : ℕ) (question : NodeAsk) (given : NodeAnswer) (old new : List Event) → is_want given ≡ false
-    → Answered kind n question given (node_event Admin n question given) ks old new → IsCalled kind n question old new
+    → Answered kind n question given (node_event Admin n question given) ks old new → IsNodeCalled kind n question old new
 called kept kind ks has n question given old new other it = record {
   before = it.adds.before;
   waits = waits-kept kept ks has old it.adds.before it.adds.later it.adds.stays;
@@ -67,7 +67,7 @@ called kept kind ks has n question given old new other it = record {
 }
 
 -- a want of memory has no event
-no-event : (n : ℕ) (question : NodeAsk) (given : NodeAnswer) (h : List Event) → IsOrder question → is_want given ≡ true → noted (node_event Admin n question given) h ≡ h
+no-event : (n : ℕ) (question : NodeAsk) (given : NodeAnswer) (h : List Event) → IsAdminAsk question → is_want given ≡ true → noted (node_event Admin n question given) h ≡ h
 no-event n ask.Start (answer.Start start.NoMemory) h is want = refl
 no-event n ask.Stop (answer.Start start.NoMemory) h is want = refl
 no-event n ask.Lose (answer.Start start.NoMemory) h is want = refl
@@ -79,7 +79,7 @@ no-event n ask.Probe given h is want = absurd is
 no-event n (ask.Replace loss fence) given h is want = absurd is
 no-event n _ _ h is want = cc
 
-pub idle : AreKept → (kind ks : List ℕ) → IsOneOf (actor_key Admin) ks → (n : ℕ) (question : NodeAsk) (given : NodeAnswer) (old new : List Event) → IsOrder question → is_want given ≡ true
+pub idle : AreKept → (kind ks : List ℕ) → IsOneOf (actor_key Admin) ks → (n : ℕ) (question : NodeAsk) (given : NodeAnswer) (old new : List Event) → IsAdminAsk question → is_want given ≡ true
     → Answered kind n question given (node_event Admin n question given) ks old new → Waits old new
 idle kept kind ks has n question given old new order want it =
     subst (λ (h : List Event). Waits old h) (sym (it.adds.last ∙ no-event n question given it.adds.before order want))
@@ -87,17 +87,17 @@ idle kept kind ks has n question given old new order want it =
 
 -- Lines.
 
-called-earlier : (kind : List ℕ) (n : ℕ) (question : NodeAsk) (a b c : List Event) → Waits a b → IsCalled kind n question b c → IsCalled kind n question a c
+called-earlier : (kind : List ℕ) (n : ℕ) (question : NodeAsk) (a b c : List Event) → Waits a b → IsNodeCalled kind n question b c → IsNodeCalled kind n question a c
 called-earlier kind n question a b c w it = record { before = it.before; waits = waits-on a b it.before w it.waits; given = it.given; right = it.right; answered = it.answered; new_is = it.new_is }
 
-armed-earlier : (n passes pick : ℕ) (a b c : List Event) → Waits a b → IsArmed n passes pick b c → IsArmed n passes pick a c
+armed-earlier : (n passes pick : ℕ) (a b c : List Event) → Waits a b → IsArmingDone n passes pick b c → IsArmingDone n passes pick a c
 armed-earlier n passes pick a b c w it = record { before = it.before; waits = waits-on a b it.before w it.waits; new_is = it.new_is }
 
 passed : (a b c : List Event) → Waits a b → c ≡ b → Waits a c
 passed a b c w is = subst (λ (h : List Event). Waits a h) (sym is) w
 
 -- a line before which others went on
-earlier : (kind : List ℕ) (l : Line) (a b c : List Event) → Waits a b → IsDone kind l b c → AreDone kind (l ∷ []) a c
+earlier : (kind : List ℕ) (l : Line) (a b c : List Event) → Waits a b → IsLineDone kind l b c → AreDone kind (l ∷ []) a c
 earlier kind (line.Stop n) a b c w it = (c, called-earlier kind n ask.Stop a b c w it, waits-none c)
 earlier kind (line.Start n) a b c w it = (c, called-earlier kind n ask.Start a b c w it, waits-none c)
 earlier kind (line.Lose n) a b c w it = (c, called-earlier kind n ask.Lose a b c w it, waits-none c)
@@ -108,7 +108,7 @@ earlier kind (line.Rounds k) a b c w it = (a, refl, passed a b c w it)
 earlier kind line.Rest a b c w it = (a, refl, passed a b c w it)
 earlier kind (line.Miss by reply) a b c w it = (a, refl, passed a b c w it)
 
-done-more : (kind : List ℕ) (lines : List Line) (l : Line) (old mid new : List Event) → AreDone kind lines old mid → IsDone kind l mid new → AreDone kind (lines ++ l ∷ []) old new
+done-more : (kind : List ℕ) (lines : List Line) (l : Line) (old mid new : List Event) → AreDone kind lines old mid → IsLineDone kind l mid new → AreDone kind (lines ++ l ∷ []) old new
 done-more kind [] l old mid new w it = earlier kind l old mid new w it
 done-more kind (x ∷ lines) l old mid new h it = (h.0, h.1, done-more kind lines l h.0 mid new h.2 it)
 
@@ -117,18 +117,18 @@ pub done-on : (kind : List ℕ) (lines : List Line) (old mid new : List Event) �
 done-on kind [] old mid new w next = waits-on old mid new w next
 done-on kind (l ∷ lines) old mid new h next = (h.0, h.1, done-on kind lines h.0 mid new h.2 next)
 
-pub begun-on : (kind : List ℕ) (lines : List Line) (old mid new : List Event) → AreBegun kind lines old mid → Waits mid new → AreBegun kind lines old new
+pub begun-on : (kind : List ℕ) (lines : List Line) (old mid new : List Event) → AreLinesBegun kind lines old mid → Waits mid new → AreLinesBegun kind lines old new
 begun-on kind lines old mid new h next = (h.0, h.1, h.2, done-on kind h.0 old mid new h.3 next)
 
 -- one line more is done
-pub done-at : (kind : List ℕ) (lines : List Line) (i : ℕ) (l : Line) (old mid new : List Event) → i < length lines → l ≡ get_or lines i l → AreDone kind (take i lines) old mid → IsDone kind l mid new
+pub done-at : (kind : List ℕ) (lines : List Line) (i : ℕ) (l : Line) (old mid new : List Event) → i < length lines → l ≡ get_or lines i l → AreDone kind (take i lines) old mid → IsLineDone kind l mid new
     → AreDone kind (take (i + 1) lines) old new
 done-at kind lines i l old mid new within is h it =
     subst (λ (ls : List Line). AreDone kind ls old new) (sym (take_more lines i l within ∙ ap (λ (x : Line). take i lines ++ x ∷ []) (sym is)))
     (done-more kind (take i lines) l old mid new h it)
 
 -- the lines before one are done
-pub begun-at : (kind : List ℕ) (lines : List Line) (i : ℕ) (old mid new : List Event) → AreDone kind (take i lines) old mid → Waits mid new → AreBegun kind lines old new
+pub begun-at : (kind : List ℕ) (lines : List Line) (i : ℕ) (old mid new : List Event) → AreDone kind (take i lines) old mid → Waits mid new → AreLinesBegun kind lines old new
 begun-at kind lines i old mid new h next = (take i lines, drop i lines, sym (take-append-drop i lines), done-on kind (take i lines) old mid new h next)
 
 -- The log grows.
@@ -137,10 +137,10 @@ noted-later : (old before new : List Event) (x : Option Event) → IsLater old b
 noted-later old before new None p is = later-still old before new p ([], is)
 noted-later old before new (Some x) p is = later-still old before new p (x ∷ [], is)
 
-called-later : (kind : List ℕ) (n : ℕ) (question : NodeAsk) (old new : List Event) → IsCalled kind n question old new → IsLater old new
+called-later : (kind : List ℕ) (n : ℕ) (question : NodeAsk) (old new : List Event) → IsNodeCalled kind n question old new → IsLater old new
 called-later kind n question old new it = noted-later old it.before new (node_event Admin n question it.given) it.waits.later it.new_is
 
-line-later : (kind : List ℕ) (l : Line) (old new : List Event) → IsDone kind l old new → IsLater old new
+line-later : (kind : List ℕ) (l : Line) (old new : List Event) → IsLineDone kind l old new → IsLater old new
 line-later kind (line.Stop n) old new it = called-later kind n ask.Stop old new it
 line-later kind (line.Start n) old new it = called-later kind n ask.Start old new it
 line-later kind (line.Lose n) old new it = called-later kind n ask.Lose old new it

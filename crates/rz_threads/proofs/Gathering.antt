@@ -4,7 +4,7 @@ use Rattle.std.specs.List.{AllByRecursion}
 use Rattle.rz_events.specs.declared.events.Event.{Event}
 use Rattle.rz_chronicle.specs.Keys.{IsOneOf}
 use Rattle.rz_chronicle.specs.Rules.{PassView}
-use Rattle.rz_threads_workers.specs.Gathered.{GoesOn, IsHeld, IsHeldLaw}
+use Rattle.rz_threads_workers.specs.Gathered.{PassGoesOn, HoldsPass, IsHeldLaw}
 
 pub one-of-left : (k : ℕ) (xs ys : List ℕ) → IsOneOf k xs → IsOneOf k (xs ++ ys)
 one-of-left k [] ys h = absurd h
@@ -14,7 +14,7 @@ pub one-of-right : (k : ℕ) (xs ys : List ℕ) → IsOneOf k ys → IsOneOf k (
 one-of-right k [] ys h = h
 one-of-right k (x ∷ xs) ys h = inr (one-of-right k xs ys h)
 
-pub goes-further : (a b c : PassView) → GoesOn a b → GoesOn b c → GoesOn a c
+pub goes-further : (a b c : PassView) → PassGoesOn a b → PassGoesOn b c → PassGoesOn a c
 goes-further a b c p q = record {
   actor = q.actor ∙ p.actor;
   more = p.more ++ q.more;
@@ -24,6 +24,6 @@ goes-further a b c p q = record {
 }
 
 -- what it holds it still holds
-pub held-all : IsHeldLaw → (ps : List PassView) (mid new : PassView) → GoesOn mid new → AllByRecursion (IsHeld mid) ps → AllByRecursion (IsHeld new) ps
+pub held-all : IsHeldLaw → (ps : List PassView) (mid new : PassView) → PassGoesOn mid new → AllByRecursion (HoldsPass mid) ps → AllByRecursion (HoldsPass new) ps
 held-all lasts [] mid new goes all = tt
 held-all lasts (p ∷ ps) mid new goes all = (lasts p mid new goes all.0, held-all lasts ps mid new goes all.1)

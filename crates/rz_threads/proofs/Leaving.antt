@@ -8,11 +8,11 @@ use Rattle.rz_events.specs.declared.events.Word.TheVariants.{Node}
 use Rattle.rz_events.specs.declared.events.Event.{Event}
 use Rattle.rz_core.specs.History.{of_word}
 use Rattle.rz_chronicle.specs.Keys.{events_at, word_key}
-use Rattle.rz_chronicle.specs.Holds.{IsSettled}
+use Rattle.rz_chronicle.specs.Holds.{IsWordSettled}
 use Rattle.rz_chronicle.specs.Rules.{WordTokenView}
 use Rattle.rz_shared_locked.specs.Counts.{AreCountedSince}
 use Rattle.rz_shared.specs.Returned.{IsReturned}
-use Rattle.rz_threads.specs.Left.{IsLeft}
+use Rattle.rz_threads.specs.Left.{IsDiskLeft}
 
 -- no number stands twice in the rest of a list
 pub distinct-rest : (xs ys : List ℕ) → IsDistinct nat_eq (xs ++ ys) → IsDistinct nat_eq ys
@@ -29,7 +29,7 @@ AreWordsKept = (w : Word) (h g : List Event) → events_at (word_key w) h ≡ ev
 
 module _ {D : Type 0} (meter : D → Meter) (image : D → List ℕ → Type 0) (kind : List ℕ) (first : ℕ → ℕ) (kept : AreWordsKept) (log : List Event) where
   -- a disk beside the token of its own node
-  left-own : (d : D) (p : WordTokenView) → IsSettled p log → (r : IsReturned meter image kind first d p) → IsLeft meter image kind first log r.node d
+  left-own : (d : D) (p : WordTokenView) → IsWordSettled p log → (r : IsReturned meter image kind first d p) → IsDiskLeft meter image kind first log r.node d
   left-own d p settled r =
       let key : word_key p.word ≡ word_key (Node r.node) = ap word_key r.word in
       let events : events_at (word_key (Node r.node)) log ≡ events_at (word_key (Node r.node)) p.log = subst (λ (k : ℕ). events_at k log ≡ events_at k p.log) key (settled.1 (word_key p.word) (inl refl)) in
@@ -42,8 +42,8 @@ module _ {D : Type 0} (meter : D → Meter) (image : D → List ℕ → Type 0) 
   same-node : (a b : ℕ) → Node a ≡ Node b → a ≡ b
   same-node a b is = cc (is)
 
-  left-one : (d : D) (p : WordTokenView) (n : ℕ) → IsSettled p log → IsReturned meter image kind first d p → p.word ≡ Node n → IsLeft meter image kind first log n d
-  left-one d p n settled r is = subst (λ (k : ℕ). IsLeft meter image kind first log k d) (same-node r.node n (sym r.word ∙ is)) (left-own d p settled r)
+  left-one : (d : D) (p : WordTokenView) (n : ℕ) → IsWordSettled p log → IsReturned meter image kind first d p → p.word ≡ Node n → IsDiskLeft meter image kind first log n d
+  left-one d p n settled r is = subst (λ (k : ℕ). IsDiskLeft meter image kind first log k d) (same-node r.node n (sym r.word ∙ is)) (left-own d p settled r)
 
   head-is : (a b : Word) (us ws : List Word) → a ∷ us ≡ b ∷ ws → a ≡ b
   head-is a b us ws is = cc (is)
@@ -55,8 +55,8 @@ module _ {D : Type 0} (meter : D → Meter) (image : D → List ℕ → Type 0) 
   none-is a us is = cc (is)
 
   -- each of them, where the tokens are those of these nodes
-  pub left-all : (ds : List D) (ps : List WordTokenView) (ns : List ℕ) → AllZip (IsReturned meter image kind first) ds ps → AllByRecursion (λ (p : WordTokenView). IsSettled p log) ps → map (λ (p : WordTokenView). p.word) ps ≡ map Node ns
-      → AllZip (IsLeft meter image kind first log) ns ds
+  pub left-all : (ds : List D) (ps : List WordTokenView) (ns : List ℕ) → AllZip (IsReturned meter image kind first) ds ps → AllByRecursion (λ (p : WordTokenView). IsWordSettled p log) ps → map (λ (p : WordTokenView). p.word) ps ≡ map Node ns
+      → AllZip (IsDiskLeft meter image kind first log) ns ds
   left-all [] [] [] all settled words = tt
   left-all [] [] (n ∷ ns) all settled words = absurd (none-is _ _ words)
   left-all [] (p ∷ ps) ns all settled words = absurd all

@@ -11,7 +11,7 @@ use Rattle.rz_play.specs.World.{actors}
 use Rattle.rz_play_locks.proofs.Barring.{of-actors}
 use Rattle.rz_chronicle.specs.Keys.{IsOneOf, owner, word_key}
 use Rattle.rz_chronicle.specs.Rules.{PassView, WordTokenView}
-use Rattle.rz_threads_workers.specs.Gathered.{GoesOn, IsHeld}
+use Rattle.rz_threads_workers.specs.Gathered.{PassGoesOn, HoldsPass}
 use Rattle.rz_threads_workers.specs.Moves.{HoldsAll}
 use Rattle.rz_threads_workers.specs.declared.pool_worker.PoolWorker.{PoolWorker}
 use Rattle.rz_threads_workers.specs.WorkerPool.{HasWorked, actor_of, pass_of}
@@ -77,13 +77,13 @@ module _ (sids ks : List ℕ) (export : IsOneOf (word_key Export) ks) (nodes : (
   holds-all place w low is = at-place place w (place == 0) (nat_le place 256) (nat_le place 320) (nat_le place 336) refl refl refl is
 
 -- the own words of those that are gathered
-own-words : (front : PassView) (ps : List PassView) → AllByRecursion (IsHeld front) ps → AllByRecursion (λ (by : Actor). IsOneOf (word_key (Own by)) front.keys) (map (λ (p : PassView). p.actor) ps)
+own-words : (front : PassView) (ps : List PassView) → AllByRecursion (HoldsPass front) ps → AllByRecursion (λ (by : Actor). IsOneOf (word_key (Own by)) front.keys) (map (λ (p : PassView). p.actor) ps)
 own-words front [] all = tt
 own-words front (p ∷ ps) all = (all.0.word, own-words front ps all.1)
 
 -- The administrator's pass gathered those of all actors, and then took over the tokens of a desk.
-pub gathered-all : (sids : List ℕ) (old mid new : PassView) (ps : List PassView) → old.actor ≡ Admin → IsOneOf (word_key (Own old.actor)) old.keys → GoesOn old mid
-    → new.keys ≡ mid.keys ++ map word_key (Export ∷ map Node sids) → AllByRecursion (IsHeld new) ps → map (λ (p : PassView). p.actor) ps ≡ actors → HoldsAll sids new.keys
+pub gathered-all : (sids : List ℕ) (old mid new : PassView) (ps : List PassView) → old.actor ≡ Admin → IsOneOf (word_key (Own old.actor)) old.keys → PassGoesOn old mid
+    → new.keys ≡ mid.keys ++ map word_key (Export ∷ map Node sids) → AllByRecursion (HoldsPass new) ps → map (λ (p : PassView). p.actor) ps ≡ actors → HoldsAll sids new.keys
 gathered-all sids old mid new ps by own goes keys held are = holds-all sids new.keys (desk 0 (inl refl)) (λ i n is. desk (word_key (Node n)) (inr (node-there sids i n is))) workers admin
   where
     desk : (k : ℕ) → IsOneOf k (map word_key (Export ∷ map Node sids)) → IsOneOf k new.keys

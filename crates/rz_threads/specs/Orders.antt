@@ -17,11 +17,11 @@ use Rattle.rz_chronicle.specs.Keys.{IsLater}
 use Rattle.rz_shared_locked.specs.LockedNodes.{IsAnswerAt}
 
 -- these calls of a node the administrator alone makes
-abbrev pub IsOrder : NodeAsk → Type 0
-IsOrder ask.Stop = Unit {0}
-IsOrder ask.Start = Unit {0}
-IsOrder ask.Lose = Unit {0}
-IsOrder _ = ⊥
+abbrev pub IsAdminAsk : NodeAsk → Type 0
+IsAdminAsk ask.Stop = Unit {0}
+IsAdminAsk ask.Start = Unit {0}
+IsAdminAsk ask.Lose = Unit {0}
+IsAdminAsk _ = ⊥
 
 -- a node was to start, and found no memory
 abbrev pub is_want : NodeAnswer → Bool
@@ -35,7 +35,7 @@ pub record Waits (old new : List Event) : Type 0 where
 
 -- The administrator called a node once: the answer is right after a log up to which it did nothing else, and on top of this log
 -- stands the event of the answer, if it has one.
-pub record IsCalled (kind : List ℕ) (n : ℕ) (question : NodeAsk) (old new : List Event) : Type 0 where
+pub record IsNodeCalled (kind : List ℕ) (n : ℕ) (question : NodeAsk) (old new : List Event) : Type 0 where
   pub before : List Event
   pub waits : Waits old before
   pub given : NodeAnswer
@@ -44,24 +44,24 @@ pub record IsCalled (kind : List ℕ) (n : ℕ) (question : NodeAsk) (old new : 
   pub new_is : new ≡ noted (node_event Admin n question given) before
 
 -- it armed the disk of a node
-pub record IsArmed (n passes pick : ℕ) (old new : List Event) : Type 0 where
+pub record IsArmingDone (n passes pick : ℕ) (old new : List Event) : Type 0 where
   pub before : List Event
   pub waits : Waits old before
   pub new_is : new ≡ e.Armed n passes pick ∷ before
 
 -- It carried out a line. Those of other actors it passes over.
-abbrev pub IsDone : List ℕ → Line → List Event → List Event → Type 0
-IsDone kind (line.Stop n) old new = IsCalled kind n ask.Stop old new
-IsDone kind (line.Start n) old new = IsCalled kind n ask.Start old new
-IsDone kind (line.Lose n) old new = IsCalled kind n ask.Lose old new
-IsDone kind (line.Break n passes pick) old new = IsArmed n passes pick old new
-IsDone kind _ old new = new ≡ old
+abbrev pub IsLineDone : List ℕ → Line → List Event → List Event → Type 0
+IsLineDone kind (line.Stop n) old new = IsNodeCalled kind n ask.Stop old new
+IsLineDone kind (line.Start n) old new = IsNodeCalled kind n ask.Start old new
+IsLineDone kind (line.Lose n) old new = IsNodeCalled kind n ask.Lose old new
+IsLineDone kind (line.Break n passes pick) old new = IsArmingDone n passes pick old new
+IsLineDone kind _ old new = new ≡ old
 
 -- the lines one after another, and nothing else
 abbrev pub AreDone : List ℕ → List Line → List Event → List Event → Type 0
 AreDone kind [] old new = Waits old new
-AreDone kind (l ∷ lines) old new = (mid : List Event) × IsDone kind l old mid × AreDone kind lines mid new
+AreDone kind (l ∷ lines) old new = (mid : List Event) × IsLineDone kind l old mid × AreDone kind lines mid new
 
 -- the first of them
-abbrev pub AreBegun : List ℕ → List Line → List Event → List Event → Type 0
-AreBegun kind lines old new = (done rest : List Line) × (lines ≡ done ++ rest) × AreDone kind done old new
+abbrev pub AreLinesBegun : List ℕ → List Line → List Event → List Event → Type 0
+AreLinesBegun kind lines old new = (done rest : List Line) × (lines ≡ done ++ rest) × AreDone kind done old new

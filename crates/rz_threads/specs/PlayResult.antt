@@ -5,7 +5,7 @@ use Rattle.rz_core.specs.History.{of_actor}
 use Rattle.rz_chronicle.specs.Kinds.{is_honest, volume_in}
 use Rattle.rz_show.specs.Shown.{shown_of}
 use Rattle.rz_threads_steps.specs.Turned.{AreLost}
-use Rattle.rz_threads_worker.specs.Doing.{IsBegun}
+use Rattle.rz_threads_worker.specs.Doing.{IsSomeDone}
 use Rattle.rz_threads_worker.specs.Workers.{IsAllDone, agenda_of}
 use Rattle.rz_threads_workers.specs.declared.pool_worker.PoolWorker.{PoolWorker}
 use Rattle.rz_threads_workers.specs.WorkerPool.{actor_of}
@@ -14,7 +14,7 @@ use Rattle.rz_threads_workers.specs.WorkerPool.{actor_of}
 
 -- its events in the log are those of some of its operations, and of a beginning of one
 abbrev pub HasBegun : {J L : Type 0} → List ℕ → List Event → PoolWorker J L → Type 0
-HasBegun kind log m = IsBegun (is_honest kind) (volume_in kind).layout (actor_of m) (agenda_of m.worker.agenda) m.worker.pass.log log
+HasBegun kind log m = IsSomeDone (is_honest kind) (volume_in kind).layout (actor_of m) (agenda_of m.worker.agenda) m.worker.pass.log log
 
 -- they are those of all its operations
 abbrev pub HasFinished : {J L : Type 0} → List ℕ → List Event → PoolWorker J L → Type 0

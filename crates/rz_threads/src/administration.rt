@@ -3,7 +3,7 @@ ghost use Rattle.std.specs.Prelude.{◌≡◌, OnOk, OnErr};
 ghost use Rattle.rz_script.specs.Lines.{IsLine, AreLines};
 ghost use Rattle.rz_chronicle.specs.Keys.{IsLater};
 ghost use Rattle.rz_chronicle.specs.Kinds.{IsFit, volume_in};
-ghost use Rattle.rz_threads.specs.Orders.{Waits, IsDone, AreDone, AreBegun};
+ghost use Rattle.rz_threads.specs.Orders.{Waits, IsLineDone, AreDone, AreLinesBegun};
 
 use crate::orders::{arm, order};
 use rz_chronicle::{Book, Pass};
@@ -25,7 +25,7 @@ fn carry_out<R: Wait, D: Disk, J: Counting>(
     requires admin { pass.old.actor ≡ Actor.Admin }
     requires line { IsLine (volume_in J.kind) line.now }
     ensures same { (pass.new.actor ≡ pass.old.actor) × (pass.new.keys ≡ pass.old.keys) }
-    ensures done { OnOk result (IsDone J.kind line.now pass.old.log pass.new.log) }
+    ensures done { OnOk result (IsLineDone J.kind line.now pass.old.log pass.new.log) }
     ensures idle { OnErr result (Waits pass.old.log pass.new.log) }
     ensures fit { IsFit J.kind pass.new.log }
 {
@@ -60,7 +60,7 @@ pub fn administer<R: Wait, D: Disk, J: Counting>(
     ensures same { (pass.new.actor ≡ pass.old.actor) × (pass.new.keys ≡ pass.old.keys) }
     ensures later { IsLater pass.old.log pass.new.log }
     ensures done { OnOk result (AreDone J.kind lines.now pass.old.log pass.new.log) }
-    ensures begun { OnErr result (AreBegun J.kind lines.now pass.old.log pass.new.log) }
+    ensures begun { OnErr result (AreLinesBegun J.kind lines.now pass.old.log pass.new.log) }
     ensures fit { IsFit J.kind pass.new.log }
 {
     let _fit = pass.actor();

@@ -2,7 +2,7 @@
 ghost use Rattle.std.specs.Prelude.{◌≡◌, Bool, OnOk, OnErr};
 ghost use Rattle.rz_core.specs.NodeRows.{IsNodeOf};
 ghost use Rattle.rz_chronicle.specs.Kinds.{IsFit, volume_in};
-ghost use Rattle.rz_threads.specs.Orders.{Waits, IsCalled, IsArmed, IsOrder, is_want};
+ghost use Rattle.rz_threads.specs.Orders.{Waits, IsNodeCalled, IsArmingDone, IsAdminAsk, is_want};
 
 use rz_chronicle::{Book, Pass};
 use rz_disk::Disk;
@@ -29,9 +29,9 @@ pub(crate) fn order<R: Wait, D: Disk, J: Counting>(
 ) -> Result<(), Halted>
     requires admin { pass.old.actor ≡ Actor.Admin }
     requires node { IsNodeOf (volume_in J.kind) node }
-    requires order { IsOrder ask.now }
+    requires order { IsAdminAsk ask.now }
     ensures same { (pass.new.actor ≡ pass.old.actor) × (pass.new.keys ≡ pass.old.keys) }
-    ensures called { OnOk result (IsCalled J.kind node ask.now pass.old.log pass.new.log) }
+    ensures called { OnOk result (IsNodeCalled J.kind node ask.now pass.old.log pass.new.log) }
     ensures idle { OnErr result (Waits pass.old.log pass.new.log) }
     ensures fit { IsFit J.kind pass.new.log }
 {
@@ -58,7 +58,7 @@ pub(crate) fn arm<R: Wait, D: Disk, J: Counting>(
     requires admin { pass.old.actor ≡ Actor.Admin }
     requires node { IsNodeOf (volume_in J.kind) node }
     ensures same { (pass.new.actor ≡ pass.old.actor) × (pass.new.keys ≡ pass.old.keys) }
-    ensures armed { IsArmed node passes pick pass.old.log pass.new.log }
+    ensures armed { IsArmingDone node passes pick pass.old.log pass.new.log }
     ensures fit { IsFit J.kind pass.new.log }
 {
     rz_chronicle::actors_kept();

@@ -9,11 +9,11 @@ ghost use Rattle.rz_play.specs.World.{actors};
 ghost use Rattle.rz_chronicle.specs.Keys.{IsLater, sids_of, word_key};
 ghost use Rattle.rz_chronicle.specs.Kinds.{IsFit, volume_in};
 ghost use Rattle.rz_chronicle.specs.Rules.{PassView};
-ghost use Rattle.rz_threads_workers.specs.Gathered.{GoesOn, IsHeld};
+ghost use Rattle.rz_threads_workers.specs.Gathered.{PassGoesOn, HoldsPass};
 ghost use Rattle.rz_threads_workers.specs.Moves.{HoldsAll};
 ghost use Rattle.rz_threads_workers.specs.WorkerPool.{CanWork, actor_of};
-ghost use Rattle.rz_threads.specs.Orders.{AreBegun, AreDone, Waits};
-ghost use Rattle.rz_threads.specs.Left.{IsLeft};
+ghost use Rattle.rz_threads.specs.Orders.{AreLinesBegun, AreDone, Waits};
+ghost use Rattle.rz_threads.specs.Left.{IsDiskLeft};
 ghost use Rattle.rz_threads.specs.PlayResult.{HasBegun, HasFinished, HasLost, shown_for};
 
 use crate::beside::{WorkResult, at_work};
@@ -35,9 +35,9 @@ fn settled<D: Disk, J: Counting>(
     front: &mut Pass<J>,
     cluster: Cluster<D, J>,
 ) -> Vec<D>
-    ensures goes { GoesOn front.old front.new }
+    ensures goes { PassGoesOn front.old front.new }
     ensures keys { front.new.keys ≡ front.old.keys ++ map word_key (w.Export ∷ map w.Node (sids_of cluster)) }
-    ensures disks { AllZip (IsLeft D.meter D.image J.kind J.first front.new.log) (sids_of cluster) result.items }
+    ensures disks { AllZip (IsDiskLeft D.meter D.image J.kind J.first front.new.log) (sids_of cluster) result.items }
     ensures fit { IsFit J.kind front.new.log }
 {
     rz_chronicle::words_kept();
@@ -63,10 +63,10 @@ fn gather_up<D: Disk, J: Counting>(
 ) -> Gathered<D, J>
     requires admin { admin.actor ≡ Actor.Admin }
     ensures waits { Waits admin.log result.front.log }
-    ensures held { AllByRecursion (IsHeld result.front) passes.items }
+    ensures held { AllByRecursion (HoldsPass result.front) passes.items }
     ensures words { map (λ (p : PassView). p.actor) passes.items ≡ actors → HoldsAll (sids_of store.cluster) result.front.keys }
     ensures book { result.book ≡ store.book }
-    ensures disks { AllZip (IsLeft D.meter D.image J.kind J.first result.front.log) (sids_of store.cluster) result.disks.items }
+    ensures disks { AllZip (IsDiskLeft D.meter D.image J.kind J.first result.front.log) (sids_of store.cluster) result.disks.items }
     ensures fit { IsFit J.kind result.front.log }
 {
     rz_chronicle::actors_kept();
@@ -126,11 +126,11 @@ pub fn play<R: Threads + Wait + Sync, D: Disk + Send, J: Counting + Send + Sync,
     ensures held { map actor_of pool.workers.items ≡ actors → HoldsAll (sids_of store.cluster) result.front.keys }
     ensures begun { AllByRecursion (HasBegun J.kind result.front.log) pool.workers.items }
     ensures finished { result.ended ≡ true → AllByRecursion (HasFinished J.kind result.front.log) pool.workers.items }
-    ensures ordered { AreBegun J.kind lines.now admin.log result.front.log }
+    ensures ordered { AreLinesBegun J.kind lines.now admin.log result.front.log }
     ensures orders { result.ended ≡ true → AreDone J.kind lines.now admin.log result.front.log }
     ensures links { AllZip (HasLost L.lost result.front.log) pool.workers.items result.links.items }
     ensures shown { map (λ (s : AVec AnEvent). s.items) result.shown.items ≡ map (shown_for result.front.log) pool.workers.items }
-    ensures disks { AllZip (IsLeft D.meter D.image J.kind J.first result.front.log) (sids_of store.cluster) result.disks.items }
+    ensures disks { AllZip (IsDiskLeft D.meter D.image J.kind J.first result.front.log) (sids_of store.cluster) result.disks.items }
 {
     let WorkerPool { workers, room } = pool;
     let WorkResult {

@@ -24,7 +24,7 @@ use Rattle.rz_operation_model.specs.Ask.{Ask, AskExport, AskNode, AskLock, ask_o
 use Rattle.rz_operation_model.specs.Work.{Work}
 use Rattle.rz_operation_model.specs.Steps.{Told, Replied, Locked, Answered, Missed, Noted, told}
 use Rattle.rz_operation_model.specs.Turns.{IsStep, Through, ReplyLost, RequestLost, goes_by_link}
-use Rattle.rz_operation.specs.Answers.{Goes, IsAnswered, IsReply, IsReplyTo, IsLockReply, IsTreeReply}
+use Rattle.rz_operation.specs.Answers.{IsWorkAfter, FitsIfEnough, IsReply, IsReplyTo, IsLockReply, IsTreeReply}
 use Rattle.rz_operation.specs.Machine.{Machine}
 use Rattle.rz_core.specs.History.{Facts, facts, of_actor}
 use Rattle.rz_core.proofs.Extends.{extends-more}
@@ -38,11 +38,11 @@ use Rattle.rz_block_laws.specs.ActingLaws.{IsGoingLaw, IsHearingLaw}
 use Rattle.rz_chronicle.specs.Keys.{IsLater}
 use Rattle.rz_chronicle.specs.Kinds.{IsFit, is_honest, volume_in}
 use Rattle.rz_chronicle.specs.Rules.{PassView}
-use Rattle.rz_shared_locked.specs.LockedNodes.{IsRead}
+use Rattle.rz_shared_locked.specs.LockedNodes.{IsTrueRecord}
 use Rattle.rz_show.specs.Shown.{shown_in, shown_of}
-use Rattle.rz_threads_steps.specs.Acted.{Lasts, IsRight, HasActed}
+use Rattle.rz_threads_steps.specs.Acted.{PassLasts, IsWorkRight, HasActed}
 use Rattle.rz_threads_steps.specs.Adding.{AddsOwn}
-use Rattle.rz_threads_steps.specs.Turned.{with_fits, GoesOn, IsCutOff}
+use Rattle.rz_threads_steps.specs.Turned.{with_fits, WorkGoesOn, IsCutOff}
 use Rattle.rz_threads_steps.proofs.Shows.{shown-noted}
 
 -- what is so where something failed
@@ -52,7 +52,7 @@ on-err (Err e) p = p
 
 -- ---- nothing was done
 
-pub still-lasts : (kind : List ℕ) (p : PassView) → IsFit kind p.log → Lasts kind p p
+pub still-lasts : (kind : List ℕ) (p : PassView) → IsFit kind p.log → PassLasts kind p p
 still-lasts kind p fit = record { actor = refl; keys = refl; later = ([], refl); fit = fit }
 
 pub still-cut : (by : Actor) (h : List Event) (m : Machine) (number : ℕ) → IsCutOff by number h h m
@@ -60,7 +60,7 @@ still-cut by h m number = record { events = []; own = refl; some = inl refl }
 
 -- ---- one after another
 
-pub lasts-on : (kind : List ℕ) (p q r : PassView) → Lasts kind p q → Lasts kind q r → Lasts kind p r
+pub lasts-on : (kind : List ℕ) (p q r : PassView) → PassLasts kind p q → PassLasts kind q r → PassLasts kind p r
 lasts-on kind p q r first next = record {
   actor = next.actor ∙ first.actor;
   keys = next.keys ∙ first.keys;
@@ -147,24 +147,24 @@ as-told (Locked granted r) = (true, refl)
 as-told Missed = (true, refl)
 as-told (Noted text) = (true, refl)
 
-pub goes-as-told : (honest : Bool) (layout : Layout) (old : Work) (t : Told) → GoesOn honest layout old t (told layout old t)
+pub goes-as-told : (honest : Bool) (layout : Layout) (old : Work) (t : Told) → WorkGoesOn honest layout old t (told layout old t)
 goes-as-told honest layout old t = let it = as-told t in record { by_told = (it.0, ap (told layout old) (sym it.1)); fitting = λ honest. refl }
 
-goes-by : (honest : Bool) (m m' : Machine) (t : Told) → m'.work ≡ told m.layout m.work t → GoesOn honest m.layout m.work t m'.work
+goes-by : (honest : Bool) (m m' : Machine) (t : Told) → m'.work ≡ told m.layout m.work t → WorkGoesOn honest m.layout m.work t m'.work
 goes-by honest m m' t is = let it = as-told t in record { by_told = (it.0, is ∙ ap (told m.layout m.work) (sym it.1)); fitting = λ h. is }
 
 -- it was told the answer of a node, with records that fit or not
-answered-as : (m : Machine) (given : NodeAnswer) (bins : List ℕ) (new : Machine) → IsAnswered m given bins new
+answered-as : (m : Machine) (given : NodeAnswer) (bins : List ℕ) (new : Machine) → FitsIfEnough m given bins new
     → (new.layout ≡ m.layout) × ((fits : Bool) × (new.work ≡ told m.layout m.work (Answered fits given)))
 answered-as m (answer.Fetch a) bins new (fits, fitting, goes) = (goes.layout, (fits, goes.work))
 answered-as m a bins new goes = (goes.layout, (true, goes.work))
 
-read-back : (v : Volume) (f : Facts) (n : ℕ) (question : NodeAsk) (given : NodeAnswer) (before bins : List ℕ) → IsRead v f n question given before bins
+read-back : (v : Volume) (f : Facts) (n : ℕ) (question : NodeAsk) (given : NodeAnswer) (before bins : List ℕ) → IsTrueRecord v f n question given before bins
     → (key : Key) (position stamp : ℕ) (r : Held) → question ≡ ask.Fetch key position stamp → given ≡ answer.Fetch (fetch.Held r) → IsReadBack v f n key r before bins
 read-back v f n question given before bins read key position stamp r asked told_so =
-    subst (λ (a : NodeAnswer). IsRead v f n (ask.Fetch key position stamp) a before bins) told_so (subst (λ (q : NodeAsk). IsRead v f n q given before bins) asked read)
+    subst (λ (a : NodeAnswer). IsTrueRecord v f n (ask.Fetch key position stamp) a before bins) told_so (subst (λ (q : NodeAsk). IsTrueRecord v f n q given before bins) asked read)
 
-module _ (kind : List ℕ) (number : ℕ) (p q : PassView) (m m' : Machine) (lasts : Lasts kind p q) where
+module _ (kind : List ℕ) (number : ℕ) (p q : PassView) (m m' : Machine) (lasts : PassLasts kind p q) where
   abbrev v : Volume
   v = volume_in kind
 
@@ -177,7 +177,7 @@ module _ (kind : List ℕ) (number : ℕ) (p q : PassView) (m m' : Machine) (las
 
   -- it was told anything but a record
   pub went : IsGoingLaw v → (t : Told) (xs : List Event) → IsStep p.actor number (ask_of m.layout m.work) t xs → IsNoFetch t → of_actor p.actor q.log ≡ xs ++ of_actor p.actor p.log
-      → (IsTrue (is_honest kind) → AreToldBy v (facts q.log) xs) → (IsTrue (is_honest kind) → TellsBytes (facts q.log) t) → Goes m m.pairs t m' → IsRight kind p number m → HasActed kind number p q m m'
+      → (IsTrue (is_honest kind) → AreToldBy v (facts q.log) xs) → (IsTrue (is_honest kind) → TellsBytes (facts q.log) t) → IsWorkAfter m m.pairs t m' → IsWorkRight kind p number m → HasActed kind number p q m m'
   went going t xs step other own said bytes goes right = record {
     turned = record { answer = t; events = xs; own = own; step = step; layout = goes.layout; goes = goes-by (is_honest kind) m m' t goes.work };
     right = λ honest. right-now (going p.log more p.actor number m m' t xs (right honest) (record {
@@ -200,14 +200,14 @@ module _ (kind : List ℕ) (number : ℕ) (p q : PassView) (m m' : Machine) (las
   said-one : (c : Call) (r : Reply) (x : Event) → export_event p.actor c r ≡ Some x → Exports c r → IsTrue (is_honest kind) → AreToldBy v (facts q.log) (x ∷ [])
   said-one c r x is adds honest = (subst (λ (o : Option Event). IfSome o (IsToldBy v (facts q.log))) is (adds.said honest), tt)
 
-  pub exported : IsGoingLaw v → (c : Call) (r : Reply) → ask_of m.layout m.work ≡ AskExport c → IsReply m.layout (ask_of m.layout m.work) r → Exports c r → AreBytes (facts q.log) → Goes m m.pairs (Replied r) m'
-      → IsRight kind p number m → HasActed kind number p q m m'
+  pub exported : IsGoingLaw v → (c : Call) (r : Reply) → ask_of m.layout m.work ≡ AskExport c → IsReply m.layout (ask_of m.layout m.work) r → Exports c r → AreBytes (facts q.log) → IsWorkAfter m m.pairs (Replied r) m'
+      → IsWorkRight kind p number m → HasActed kind number p q m m'
   exported going c r asks is adds bytes goes right =
       let has : (x : Event) × (export_event p.actor c r ≡ Some x) = reply-to m.layout p.actor c r (subst (λ (a : Ask). IsReply m.layout a r) asks is) in
       went going (Replied r) (has.0 ∷ []) (export-step p.actor number m c r has.0 asks has.1) tt (noted-one c r has.0 has.1 adds) (said-one c r has.0 has.1 adds) (λ honest. bytes) goes right
 
   pub opened : IsGoingLaw v → (path : List ℕ) (exclusive : Bool) (from count : ℕ) (granted : Bool) (c : Call) (r : Reply) → c ≡ call.Tree (tree.OpenFile path) → ask_of m.layout m.work ≡ AskLock path exclusive from count
-      → IsLockReply m.layout (ask_of m.layout m.work) r → Exports c r → Goes m m.pairs (Locked granted r) m' → IsRight kind p number m → HasActed kind number p q m m'
+      → IsLockReply m.layout (ask_of m.layout m.work) r → Exports c r → IsWorkAfter m m.pairs (Locked granted r) m' → IsWorkRight kind p number m → HasActed kind number p q m m'
   opened going path exclusive from count granted c r opens asks is adds goes right =
       let has : (x : Event) × (export_event p.actor (call.Tree (tree.OpenFile path)) r ≡ Some x) = open-to m.layout p.actor path r (subst (λ (a : Ask). IsLockReply m.layout a r) asks is) in
       let event : export_event p.actor c r ≡ Some has.0 = ap (λ (k : Call). export_event p.actor k r) opens ∙ has.1 in
@@ -215,7 +215,7 @@ module _ (kind : List ℕ) (number : ℕ) (p q : PassView) (m m' : Machine) (las
 
   -- a node answered with this event
   pub heard : IsHearingLaw v → (n : ℕ) (question : NodeAsk) (given : NodeAnswer) (x : Event) (before bins : List ℕ) → ask_of m.layout m.work ≡ AskNode n question → node_event p.actor n question given ≡ Some x
-      → AddsOwn v (is_honest kind) p.actor p.log (Some x) q.log → (IsTrue (is_honest kind) → IsRead v (facts q.log) n question given before bins) → IsAnswered m given bins m' → IsRight kind p number m
+      → AddsOwn v (is_honest kind) p.actor p.log (Some x) q.log → (IsTrue (is_honest kind) → IsTrueRecord v (facts q.log) n question given before bins) → FitsIfEnough m given bins m' → IsWorkRight kind p number m
       → HasActed kind number p q m m'
   heard hears n question given x before bins asked event adds read answered right = record {
     turned = record {
@@ -238,13 +238,13 @@ module _ (kind : List ℕ) (number : ℕ) (p q : PassView) (m m' : Machine) (las
         event = event;
         own = subst (λ (h : List Event). of_actor p.actor h ≡ x ∷ of_actor p.actor p.log) lasts.later.1 adds.own;
         said = subst (λ (h : List Event). IsToldBy v (facts h) x) lasts.later.1 (adds.said honest);
-        read = read-back v (facts (more ++ p.log)) n question given before bins (subst (λ (h : List Event). IsRead v (facts h) n question given before bins) lasts.later.1 (read honest));
+        read = read-back v (facts (more ++ p.log)) n question given before bins (subst (λ (h : List Event). IsTrueRecord v (facts h) n question given before bins) lasts.later.1 (read honest));
         answered = answered;
       })
 
   -- of an answer that has this event
   pub heard-of : IsHearingLaw v → (n : ℕ) (question : NodeAsk) (given : NodeAnswer) (before bins : List ℕ) → ask_of m.layout m.work ≡ AskNode n question → ((x : Event) × (node_event p.actor n question given ≡ Some x))
-      → AddsOwn v (is_honest kind) p.actor p.log (node_event p.actor n question given) q.log → (IsTrue (is_honest kind) → IsRead v (facts q.log) n question given before bins) → IsAnswered m given bins m' → IsRight kind p number m
+      → AddsOwn v (is_honest kind) p.actor p.log (node_event p.actor n question given) q.log → (IsTrue (is_honest kind) → IsTrueRecord v (facts q.log) n question given before bins) → FitsIfEnough m given bins m' → IsWorkRight kind p number m
       → HasActed kind number p q m m'
   heard-of hears n question given before bins asked (x, event) adds read answered right =
       heard hears n question given x before bins asked event (subst (λ (o : Option Event). AddsOwn v (is_honest kind) p.actor p.log o q.log) event adds) read answered right
@@ -252,7 +252,7 @@ module _ (kind : List ℕ) (number : ℕ) (p q : PassView) (m m' : Machine) (las
   -- its answer was lost
   pub missed-reply : IsGoingLaw v → (n : ℕ) (question : NodeAsk) (given : NodeAnswer) (mid : List Event) → ask_of m.layout m.work ≡ AskNode n question → goes_by_link question ≡ true
       → ((x : Event) × (node_event p.actor n question given ≡ Some x)) → AddsOwn v (is_honest kind) p.actor p.log (node_event p.actor n question given) mid
-      → AddsOwn v (is_honest kind) p.actor mid (Some (e.Missed p.actor n true)) q.log → Goes m m.pairs Missed m' → IsRight kind p number m → HasActed kind number p q m m'
+      → AddsOwn v (is_honest kind) p.actor mid (Some (e.Missed p.actor n true)) q.log → IsWorkAfter m m.pairs Missed m' → IsWorkRight kind p number m → HasActed kind number p q m m'
   missed-reply going n question given mid asked link (x, event) first next goes right =
       let one : AddsOwn v (is_honest kind) p.actor p.log (Some x) mid = subst (λ (o : Option Event). AddsOwn v (is_honest kind) p.actor p.log o mid) event first in
       let miss = e.Missed p.actor n true in
@@ -262,7 +262,7 @@ module _ (kind : List ℕ) (number : ℕ) (p q : PassView) (m m' : Machine) (las
 
   -- it was lost itself
   pub missed-request : IsGoingLaw v → (n : ℕ) (question : NodeAsk) → ask_of m.layout m.work ≡ AskNode n question → goes_by_link question ≡ true
-      → AddsOwn v (is_honest kind) p.actor p.log (Some (e.Missed p.actor n false)) q.log → Goes m m.pairs Missed m' → IsRight kind p number m → HasActed kind number p q m m'
+      → AddsOwn v (is_honest kind) p.actor p.log (Some (e.Missed p.actor n false)) q.log → IsWorkAfter m m.pairs Missed m' → IsWorkRight kind p number m → HasActed kind number p q m m'
   missed-request going n question asked link adds goes right =
       let miss = e.Missed p.actor n false in
       went going Missed (miss ∷ []) (subst (λ (a : Ask). IsStep p.actor number a Missed (miss ∷ [])) (sym asked) (RequestLost link)) tt adds.own (λ honest. (adds.said honest, tt)) (λ honest. tt) goes right

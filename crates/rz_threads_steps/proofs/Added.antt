@@ -23,7 +23,7 @@ use Rattle.rz_chronicle.specs.Keys.{IsOneOf, events_at, actor_key}
 use Rattle.rz_chronicle.specs.Kinds.{IsFit, is_honest, volume_in}
 use Rattle.rz_chronicle.specs.Holds.{Commits}
 use Rattle.rz_shared_locked.specs.Adding.{Adds}
-use Rattle.rz_shared_locked.specs.LockedNodes.{IsFor}
+use Rattle.rz_shared_locked.specs.LockedNodes.{IsAskerRight}
 use Rattle.rz_threads_steps.specs.Adding.{AddsOwn}
 
 abbrev pub AreKept : Type 0
@@ -78,7 +78,7 @@ noted-quiet (Some x) h quiet = quiet-count x h (quiet x refl)
 noted-quiet None h quiet = refl
 
 -- what an actor asks of a node, the administrator does not
-pub for-actor : (by : Actor) (question : NodeAsk) → ¬ (by ≡ Admin) → IsOfActor question → IsFor by question
+pub for-actor : (by : Actor) (question : NodeAsk) → ¬ (by ≡ Admin) → IsOfActor question → IsAskerRight by question
 for-actor by (ask.Keep head) other of = other
 for-actor by (ask.Fetch key position stamp) other of = other
 for-actor by (ask.Refill fence head) other of = other

@@ -24,7 +24,7 @@ use Rattle.rz_core.specs.Own.{IsOpen}
 use Rattle.rz_block_laws.specs.Acting.{IsActing}
 use Rattle.rz_block_laws.specs.ActingLaws.{IsAskingLaw}
 use Rattle.rz_block_laws.specs.Laws.{IsHandingLaw}
-use Rattle.rz_shared_locked.specs.LockedNodes.{MayAsk, IsRead}
+use Rattle.rz_shared_locked.specs.LockedNodes.{MayAsk, IsTrueRecord}
 use Rattle.rz_play.specs.Lines.{noted}
 use Rattle.rz_play_laws.specs.Own.{IsOfActor}
 use Rattle.rz_player.specs.Messages.{IsNotedAs}
@@ -121,7 +121,7 @@ IsBinful (ask.Keep head) = Unit {0}
 IsBinful (ask.Refill fence head) = Unit {0}
 IsBinful question = ⊥
 
-pub no-read : (v : Volume) (f : Facts) (n : ℕ) (question : NodeAsk) (given : NodeAnswer) (bins bins' : List ℕ) → IsBinful question → IsRead v f n question given bins bins'
+pub no-read : (v : Volume) (f : Facts) (n : ℕ) (question : NodeAsk) (given : NodeAnswer) (bins bins' : List ℕ) → IsBinful question → IsTrueRecord v f n question given bins bins'
 no-read v f n (ask.Keep head) given bins bins' is = tt
 no-read v f n (ask.Refill fence head) given bins bins' is = tt
 no-read v f n (_) given bins bins' is = absurd is

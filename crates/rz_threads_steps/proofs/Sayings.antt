@@ -18,8 +18,8 @@ use Rattle.rz_block_laws.specs.ActingLaws.{IsAskingLaw, IsSayingLaw}
 use Rattle.rz_chronicle.specs.Keys.{count_at, word_key}
 use Rattle.rz_chronicle.specs.Kinds.{IsFit, MayCome, volume_in}
 use Rattle.rz_chronicle.specs.Rules.{PassView}
-use Rattle.rz_threads_steps.specs.Acted.{IsRight}
-use Rattle.rz_threads_steps.specs.Saying.{IsSaid}
+use Rattle.rz_threads_steps.specs.Acted.{IsWorkRight}
+use Rattle.rz_threads_steps.specs.Saying.{IsSayingDone}
 
 abbrev pub AreCounted : Type 0
 AreCounted = (w : Word) (h : List Event) → length (of_word w h) ≤ count_at (word_key w) h
@@ -52,7 +52,7 @@ said-row v f o w run by number text (SayGave key part end) row = row
 said-row v f o w run by number text (SayLeft key why) row = row
 said-row v f o w run by number text (SayDone answer) row = row
 
-module _ (kind : List ℕ) (p : PassView) (number : ℕ) (m m' : Machine) (x : Event) (said : IsSaid p.actor number m m' x) where
+module _ (kind : List ℕ) (p : PassView) (number : ℕ) (m m' : Machine) (x : Event) (said : IsSayingDone p.actor number m m' x) where
   pub its-by : by_of x ≡ p.actor
   its-by = ap by_of said.event ∙ said-by p.actor number (text_of m) said.saying
 
@@ -60,7 +60,7 @@ module _ (kind : List ℕ) (p : PassView) (number : ℕ) (m m' : Machine) (x : E
   its-word = ap word_of said.event ∙ said-word p.actor number (text_of m) said.saying
 
   -- what an operation says may come next
-  pub say-may : AreCounted → IsAskingLaw (volume_in kind) → IsSayingLaw (volume_in kind) → IsFit kind p.log → IsRight kind p number m → count_at (word_key (Own p.actor)) p.log + 1 < 2 ^ 64 → MayCome kind p.log x
+  pub say-may : AreCounted → IsAskingLaw (volume_in kind) → IsSayingLaw (volume_in kind) → IsFit kind p.log → IsWorkRight kind p number m → count_at (word_key (Own p.actor)) p.log + 1 < 2 ^ 64 → MayCome kind p.log x
   say-may counted asks says fit right room honest =
       let v = volume_in kind in
       let f = facts p.log in
@@ -75,5 +75,5 @@ module _ (kind : List ℕ) (p : PassView) (number : ℕ) (m m' : Machine) (x : E
   say-step = subst (λ (a : Ask). IsStep p.actor number a (Noted (text_of m)) (x ∷ [])) (sym said.asks) (text_of m, refl, ap (λ (y : Event). y ∷ []) said.event)
 
 -- the actor of a pass says it
-pub at-actor : (a by : Actor) (number : ℕ) (m m' : Machine) (x : Event) → a ≡ by → IsSaid a number m m' x → IsSaid by number m m' x
-at-actor a by number m m' x is said = subst (λ (b : Actor). IsSaid b number m m' x) is said
+pub at-actor : (a by : Actor) (number : ℕ) (m m' : Machine) (x : Event) → a ≡ by → IsSayingDone a number m m' x → IsSayingDone by number m m' x
+at-actor a by number m m' x is said = subst (λ (b : Actor). IsSayingDone b number m m' x) is said

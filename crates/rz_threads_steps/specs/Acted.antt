@@ -11,33 +11,33 @@ use Rattle.rz_block_laws.specs.Acting.{IsActing}
 use Rattle.rz_chronicle.specs.Keys.{IsLater}
 use Rattle.rz_chronicle.specs.Kinds.{IsFit, is_honest, volume_in}
 use Rattle.rz_chronicle.specs.Rules.{PassView}
-use Rattle.rz_shared_locked.specs.LockedNodes.{IsRead}
+use Rattle.rz_shared_locked.specs.LockedNodes.{IsTrueRecord}
 use Rattle.rz_show.specs.Shown.{shown_of}
 use Rattle.rz_threads_steps.specs.Adding.{AddsOwn}
 use Rattle.rz_threads_steps.specs.Turned.{IsTurned}
 
 -- The pass is that of the same actor, with the same tokens, and has seen more.
-pub record Lasts (kind : List ℕ) (old new : PassView) : Type 0 where
+pub record PassLasts (kind : List ℕ) (old new : PassView) : Type 0 where
   pub actor : new.actor ≡ old.actor
   pub keys : new.keys ≡ old.keys
   pub later : IsLater old.log new.log
   pub fit : IsFit kind new.log
 
 -- over an honest book the operation of this number is right beside the log
-abbrev pub IsRight : List ℕ → PassView → ℕ → Machine → Type 0
-IsRight kind p number m = IsTrue (is_honest kind) → IsActing (volume_in kind) p.log p.actor number m
+abbrev pub IsWorkRight : List ℕ → PassView → ℕ → Machine → Type 0
+IsWorkRight kind p number m = IsTrue (is_honest kind) → IsActing (volume_in kind) p.log p.actor number m
 
 -- The operation took a turn, and is right beside the log again.
 pub record HasActed (kind : List ℕ) (number : ℕ) (old new : PassView) (m m' : Machine) : Type 0 where
   pub turned : IsTurned (is_honest kind) old.actor number old.log new.log m m'
-  pub right : IsRight kind new number m'
+  pub right : IsWorkRight kind new number m'
 
 -- A node answered an actor's call: the event of the answer, if it has one, is the actor's own, and a record that came is that
 -- of its write.
-pub record IsServed (kind : List ℕ) (node : ℕ) (question : NodeAsk) (given : NodeAnswer) (old new : PassView) (bins bins' : List ℕ) : Type 0 where
+pub record IsCallServed (kind : List ℕ) (node : ℕ) (question : NodeAsk) (given : NodeAnswer) (old new : PassView) (bins bins' : List ℕ) : Type 0 where
   pub for_actor : IsOfActor question
   pub adds : AddsOwn (volume_in kind) (is_honest kind) old.actor old.log (node_event old.actor node question given) new.log
   pub quiet : missed (of_actor old.actor new.log) ≡ missed (of_actor old.actor old.log)
   pub unshown : shown_of (of_actor old.actor new.log) ≡ shown_of (of_actor old.actor old.log)
-  pub read : IsTrue (is_honest kind) → IsRead (volume_in kind) (facts new.log) node question given bins bins'
-  pub lasts : Lasts kind old new
+  pub read : IsTrue (is_honest kind) → IsTrueRecord (volume_in kind) (facts new.log) node question given bins bins'
+  pub lasts : PassLasts kind old new

@@ -18,7 +18,7 @@ with_fits fits (Answered f given) = Answered fits given
 with_fits fits t = t
 
 -- The work goes on by what it was told. Over an honest book the records that came fit a block.
-pub record GoesOn (honest : Bool) (layout : Layout) (old : Work) (t : Told) (new : Work) : Type 0 where
+pub record WorkGoesOn (honest : Bool) (layout : Layout) (old : Work) (t : Told) (new : Work) : Type 0 where
   pub by_told : (fits : Bool) × (new ≡ told layout old (with_fits fits t))
   pub fitting : IsTrue honest → new ≡ told layout old t
 
@@ -29,7 +29,7 @@ pub record IsTurned (honest : Bool) (by : Actor) (number : ℕ) (old new : List 
   pub own : of_actor by new ≡ events ++ of_actor by old
   pub step : IsStep by number (ask_of m.layout m.work) answer events
   pub layout : m'.layout ≡ m.layout
-  pub goes : GoesOn honest m.layout m.work answer m'.work
+  pub goes : WorkGoesOn honest m.layout m.work answer m'.work
 
 -- A turn that was cut off: the actor has no event more, or those of an answer of which its operation was not told.
 pub record IsCutOff (by : Actor) (number : ℕ) (old new : List Event) (m : Machine) : Type 0 where

@@ -15,7 +15,7 @@ ghost use Rattle.rz_play_laws.specs.Own.{IsOfActor};
 ghost use Rattle.rz_block_laws.specs.Acting.{AreBytes};
 ghost use Rattle.rz_chronicle.specs.Keys.{count_at, word_key};
 ghost use Rattle.rz_chronicle.specs.Kinds.{IsFit, MayCome, is_honest, volume_in};
-ghost use Rattle.rz_shared_locked.specs.LockedNodes.{MayAsk, IsRead};
+ghost use Rattle.rz_shared_locked.specs.LockedNodes.{MayAsk, IsTrueRecord};
 ghost use Rattle.rz_show.specs.Shown.{shown_of};
 ghost use Rattle.rz_threads_steps.specs.Adding.{AddsOwn};
 
@@ -69,7 +69,7 @@ pub fn call_node<R: Wait, D: Disk, J: Counting>(
     ensures adds { AddsOwn (volume_in J.kind) (is_honest J.kind) pass.old.actor pass.old.log (node_event pass.old.actor node ask.now result) pass.new.log }
     ensures quiet { missed (of_actor pass.old.actor pass.new.log) ≡ missed (of_actor pass.old.actor pass.old.log) }
     ensures shown { shown_of (of_actor pass.old.actor pass.new.log) ≡ shown_of (of_actor pass.old.actor pass.old.log) }
-    ensures read { IsTrue (is_honest J.kind) → IsRead (volume_in J.kind) (facts pass.new.log) node ask.now result bins.old bins.new }
+    ensures read { IsTrue (is_honest J.kind) → IsTrueRecord (volume_in J.kind) (facts pass.new.log) node ask.now result bins.old bins.new }
 
     // The caller's bins are written where a record was read, and not behind the most bins that one has.
     ensures unread { IsUnread result → bins.new ≡ bins.old }

@@ -11,21 +11,21 @@
 //! right beside the log again. Where memory is wanting, or an answer is none to what was asked, which no store
 //! over an honest book gives, the turn was cut off: the answer's event may be there, and the machine was not told.
 //!
-//! In reading order: `store`, `adding`, `showing`, `exports`, `locking`, `sending`, `words`.
+//! In reading order: `store`, `adding`, `showing`, `export_calls`, `locked_opens`, `sending`, `saying`.
 #![tactic(auto)]
 
 mod adding;
-mod exports;
-mod locking;
+mod export_calls;
+mod locked_opens;
+mod saying;
 mod sending;
 mod showing;
 mod store;
-mod words;
 
 pub use adding::{add_own, call_export, call_node};
-pub use exports::{ask_export, next_call};
-pub use locking::{WantedLock, next_open, open_locked, release};
+pub use export_calls::{ask_export, next_call};
+pub use locked_opens::{WantedLock, next_open, open_locked, release};
 pub use rz_player::Halted;
+pub use saying::{said, say};
 pub use sending::message;
 pub use store::SharedStore;
-pub use words::{said, say};

@@ -17,7 +17,7 @@ ghost use Rattle.rz_chronicle.specs.Keys.{count_at, word_key};
 ghost use Rattle.rz_chronicle.specs.Kinds.{is_honest, volume_in};
 ghost use Rattle.rz_events.specs.declared.events.Word.TheVariants as w;
 ghost use Rattle.rz_show.specs.Shown.{shown_of};
-ghost use Rattle.rz_threads_steps.specs.Acted.{Lasts, IsRight, HasActed, IsServed};
+ghost use Rattle.rz_threads_steps.specs.Acted.{PassLasts, IsWorkRight, HasActed, IsCallServed};
 ghost use Rattle.rz_threads_steps.specs.Adding.{AddsOwn};
 ghost use Rattle.rz_threads_steps.specs.Asking.{IsPlaced};
 ghost use Rattle.rz_threads_steps.specs.Turned.{AreLost, IsCutOff};
@@ -84,9 +84,9 @@ fn serve<R: Wait, D: Disk, J: Counting>(
     requires node { IsNodeOf (volume_in J.kind) node }
     requires actor { ¬ (pass.old.actor ≡ Actor.Admin) }
     requires asked { ask_of machine.now.layout machine.now.work ≡ AskNode node ask.now }
-    requires right { (number : ℕ) × IsRight J.kind pass.old number machine.now }
+    requires right { (number : ℕ) × IsWorkRight J.kind pass.old number machine.now }
     requires room { max_bins_of (volume_in J.kind).layout ≤ length bins.old }
-    ensures served { IfOk result (λ a. IsServed J.kind node ask.now a pass.old pass.new bins.old bins.new) }
+    ensures served { IfOk result (λ a. IsCallServed J.kind node ask.now a pass.old pass.new bins.old bins.new) }
     ensures still { OnErr result (pass.new ≡ pass.old) }
 {
     rz_block_laws::acting::asks();
@@ -124,13 +124,13 @@ fn through<R: Wait, D: Disk, J: Counting>(
     requires actor { ¬ (pass.old.actor ≡ Actor.Admin) }
     requires layout { machine.old.layout ≡ (volume_in J.kind).layout }
     requires asked { ask_of machine.old.layout machine.old.work ≡ AskNode node ask.now }
-    requires right { (number : ℕ) × IsRight J.kind pass.old number machine.old }
+    requires right { (number : ℕ) × IsWorkRight J.kind pass.old number machine.old }
     requires room { max_bins_of (volume_in J.kind).layout ≤ length bins.old }
-    ensures lasts { Lasts J.kind pass.old pass.new }
+    ensures lasts { PassLasts J.kind pass.old pass.new }
     ensures quiet { missed (of_actor pass.old.actor pass.new.log) ≡ missed (of_actor pass.old.actor pass.old.log) }
     ensures unshown { shown_of (of_actor pass.old.actor pass.new.log) ≡ shown_of (of_actor pass.old.actor pass.old.log) }
     ensures noted { OnOk result (IsNotedAs pass.old.actor node ask.now Sent.Through (of_actor pass.old.actor pass.old.log) (of_actor pass.old.actor pass.new.log)) }
-    ensures acted { OnOk result ((number : ℕ) → IsRight J.kind pass.old number machine.old → HasActed J.kind number pass.old pass.new machine.old machine.new) }
+    ensures acted { OnOk result ((number : ℕ) → IsWorkRight J.kind pass.old number machine.old → HasActed J.kind number pass.old pass.new machine.old machine.new) }
     ensures cut { OnErr result ((number : ℕ) → IsCutOff pass.old.actor number pass.old.log pass.new.log machine.old) }
 {
     rz_block_laws::acting::hears();
@@ -159,7 +159,7 @@ fn add_missed<D: Disk, J: Counting>(
     requires actor { ¬ (pass.old.actor ≡ Actor.Admin) }
     requires going { IsTrue (is_honest J.kind) → IsOpen (of_actor pass.old.actor pass.old.log) }
     requires room { count_at (word_key (w.Own pass.old.actor)) pass.old.log + 1 < 2 ^ 64 }
-    ensures lasts { Lasts J.kind pass.old pass.new }
+    ensures lasts { PassLasts J.kind pass.old pass.new }
     ensures adds { AddsOwn (volume_in J.kind) (is_honest J.kind) pass.old.actor pass.old.log (Some (e.Missed pass.old.actor node reply)) pass.new.log }
 {
     rz_chronicle::words_counted();
@@ -183,14 +183,14 @@ fn without_reply<R: Wait, D: Disk, J: Counting>(
     requires node { IsNodeOf (volume_in J.kind) node }
     requires actor { ¬ (pass.old.actor ≡ Actor.Admin) }
     requires asked { ask_of machine.old.layout machine.old.work ≡ AskNode node ask.now }
-    requires right { (number : ℕ) × IsRight J.kind pass.old number machine.old }
+    requires right { (number : ℕ) × IsWorkRight J.kind pass.old number machine.old }
     requires lossy { goes_by_link ask.now ≡ true }
     requires room { max_bins_of (volume_in J.kind).layout ≤ length bins.old }
-    ensures lasts { Lasts J.kind pass.old pass.new }
+    ensures lasts { PassLasts J.kind pass.old pass.new }
     ensures one { missed (of_actor pass.old.actor pass.new.log) ≤ missed (of_actor pass.old.actor pass.old.log) + 1 }
     ensures unshown { shown_of (of_actor pass.old.actor pass.new.log) ≡ shown_of (of_actor pass.old.actor pass.old.log) }
     ensures noted { OnOk result (IsNotedAs pass.old.actor node ask.now Sent.ReplyLost (of_actor pass.old.actor pass.old.log) (of_actor pass.old.actor pass.new.log)) }
-    ensures acted { OnOk result ((number : ℕ) → IsRight J.kind pass.old number machine.old → HasActed J.kind number pass.old pass.new machine.old machine.new) }
+    ensures acted { OnOk result ((number : ℕ) → IsWorkRight J.kind pass.old number machine.old → HasActed J.kind number pass.old pass.new machine.old machine.new) }
     ensures cut { OnErr result ((number : ℕ) → IsCutOff pass.old.actor number pass.old.log pass.new.log machine.old) }
 {
     rz_block_laws::acting::goes();
@@ -215,13 +215,13 @@ fn without_request<D: Disk, J: Counting>(
     requires volume { store.now.volume ≡ volume_in J.kind }
     requires actor { ¬ (pass.old.actor ≡ Actor.Admin) }
     requires asked { ask_of machine.old.layout machine.old.work ≡ AskNode node ask.now }
-    requires right { (number : ℕ) × IsRight J.kind pass.old number machine.old }
+    requires right { (number : ℕ) × IsWorkRight J.kind pass.old number machine.old }
     requires lossy { goes_by_link ask.now ≡ true }
-    ensures lasts { Lasts J.kind pass.old pass.new }
+    ensures lasts { PassLasts J.kind pass.old pass.new }
     ensures one { missed (of_actor pass.old.actor pass.new.log) ≤ missed (of_actor pass.old.actor pass.old.log) + 1 }
     ensures unshown { shown_of (of_actor pass.old.actor pass.new.log) ≡ shown_of (of_actor pass.old.actor pass.old.log) }
     ensures noted { OnOk result (IsNotedAs pass.old.actor node ask.now Sent.RequestLost (of_actor pass.old.actor pass.old.log) (of_actor pass.old.actor pass.new.log)) }
-    ensures acted { OnOk result ((number : ℕ) → IsRight J.kind pass.old number machine.old → HasActed J.kind number pass.old pass.new machine.old machine.new) }
+    ensures acted { OnOk result ((number : ℕ) → IsWorkRight J.kind pass.old number machine.old → HasActed J.kind number pass.old pass.new machine.old machine.new) }
     ensures cut { OnErr result ((number : ℕ) → IsCutOff pass.old.actor number pass.old.log pass.new.log machine.old) }
 {
     rz_block_laws::acting::asks();
@@ -252,13 +252,13 @@ pub fn message<R: Wait, D: Disk, J: Counting, L: Link>(
     requires actor { ¬ (pass.old.actor ≡ Actor.Admin) }
     requires layout { machine.old.layout ≡ (volume_in J.kind).layout }
     requires asked { ask_of machine.old.layout machine.old.work ≡ AskNode node ask }
-    requires right { (number : ℕ) × IsRight J.kind pass.old number machine.old }
+    requires right { (number : ℕ) × IsWorkRight J.kind pass.old number machine.old }
     requires room { max_bins_of (volume_in J.kind).layout ≤ length bins.old }
-    ensures lasts { Lasts J.kind pass.old pass.new }
+    ensures lasts { PassLasts J.kind pass.old pass.new }
     ensures lost { AreLost pass.old.actor pass.old.log pass.new.log (L.lost link.old) (L.lost link.new) }
     ensures sent { OnOk result (IsSent L.says None pass.old.actor node ask link.old link.new (of_actor pass.old.actor pass.old.log) (of_actor pass.old.actor pass.new.log)) }
     ensures unshown { shown_of (of_actor pass.old.actor pass.new.log) ≡ shown_of (of_actor pass.old.actor pass.old.log) }
-    ensures acted { OnOk result ((number : ℕ) → IsRight J.kind pass.old number machine.old → HasActed J.kind number pass.old pass.new machine.old machine.new) }
+    ensures acted { OnOk result ((number : ℕ) → IsWorkRight J.kind pass.old number machine.old → HasActed J.kind number pass.old pass.new machine.old machine.new) }
     ensures cut { OnErr result ((number : ℕ) → IsCutOff pass.old.actor number pass.old.log pass.new.log machine.old) }
 {
     let _fit = pass.actor();

@@ -13,19 +13,19 @@ use Rattle.rz_operation_model.specs.Work.{Work, Calling, Dropping, Opening, Lock
 use Rattle.rz_operation_model.specs.Steps.{begun}
 use Rattle.rz_core.specs.History.{facts, of_actor}
 use Rattle.rz_core.specs.Own.{IsBetween}
-use Rattle.rz_play.specs.World.{Agenda as APlayer, take_up, at_work, is_over}
-use Rattle.rz_play_laws.specs.Own.{IsOwn}
+use Rattle.rz_play.specs.World.{Agenda as APlayer, begin_next, at_work, is_over}
+use Rattle.rz_play_laws.specs.Own.{IsOwnOf}
 use Rattle.rz_block_laws.specs.ActingLaws.{IsBeginningLaw}
 use Rattle.rz_chronicle.specs.Kinds.{volume_in}
 use Rattle.rz_chronicle.specs.Rules.{PassView}
-use Rattle.rz_threads_steps.specs.Acted.{IsRight}
-use Rattle.rz_threads_worker.specs.declared.agenda.Agenda.{Agenda}
-use Rattle.rz_threads_worker.specs.Workers.{work_in, agenda_of, HasLayout, IsAtHand, IsReady, TakesUp, Works, Rests, Begins}
+use Rattle.rz_threads_steps.specs.Acted.{IsWorkRight}
+use Rattle.rz_threads_worker.specs.declared.worker_agenda.Agenda.{Agenda}
+use Rattle.rz_threads_worker.specs.Workers.{work_in, agenda_of, HasLayout, IsAtHand, IsWorkerReady, BeginsNext, Works, Rests, Begins}
 
 -- ---- in the words of a play
 
 -- an operation in hand stays
-same-work : (s : APlayer) (work : Work) (ops : List Operation) → is_over work ≡ false → take_up s work ops ≡ s
+same-work : (s : APlayer) (work : Work) (ops : List Operation) → is_over work ≡ false → begin_next s work ops ≡ s
 same-work s Over ops busy = absurd (cc)
 same-work s (Calling c) ops busy = refl
 same-work s (Dropping fid n places) ops busy = refl
@@ -37,7 +37,7 @@ same-work s (Rebuilding n r) ops busy = refl
 same-work s (Ending answer) ops busy = refl
 
 -- nothing to do
-no-work : (s : APlayer) (work : Work) → take_up s work [] ≡ s
+no-work : (s : APlayer) (work : Work) → begin_next s work [] ≡ s
 no-work s Over = refl
 no-work s (Calling c) = refl
 no-work s (Dropping fid n places) = refl
@@ -65,14 +65,14 @@ next-work : (s : APlayer) (op : Operation) (ops : List Operation) (number : ℕ)
 next-work s op ops number work over todo num is =
     ap (λ (n : ℕ). record s { todo = ops; number = n; work = work }) num
     ∙ ap (λ (w : Work). record s { todo = ops; number = s.number + 1; work = w }) is
-    ∙ sym (ap (take_up s s.work) todo ∙ ap (λ (w : Work). take_up s w (op ∷ ops)) (over-is s.work over))
+    ∙ sym (ap (begin_next s s.work) todo ∙ ap (λ (w : Work). begin_next s w (op ∷ ops)) (over-is s.work over))
 
 -- the agenda is that of an actor at work
-pub taken-up : (layout : Layout) (a b : Agenda) → TakesUp layout a b → agenda_of b ≡ at_work (agenda_of a)
+pub taken-up : (layout : Layout) (a b : Agenda) → BeginsNext layout a b → agenda_of b ≡ at_work (agenda_of a)
 taken-up layout a b (Works busy same) = ap agenda_of same ∙ sym (same-work (agenda_of a) (work_in a.machine) a.todo.items busy)
 taken-up layout a b (Rests none still number hand) =
     (λ i. record { todo = (still ∙ sym none) i; number = number i; work = work_in (hand i); lock = None; miss = None })
-    ∙ sym (ap (take_up (agenda_of a) (work_in a.machine)) none ∙ no-work (agenda_of a) (work_in a.machine))
+    ∙ sym (ap (begin_next (agenda_of a) (work_in a.machine)) none ∙ no-work (agenda_of a) (work_in a.machine))
 taken-up layout a b (Begins op m over todo number is lay work) =
     next-work (agenda_of a) op b.todo.items b.number (work_in b.machine) over todo number (ap work_in is ∙ work)
 
@@ -102,13 +102,13 @@ all-taken v begins by (op ∷ ops) all = ((begins by op all.0).takes, all-taken 
 -- where none is in hand, the actor is between two operations
 between : (v : Volume) (h : List Event) (by : Actor) (number : ℕ) (hand : Option Machine) → is_over (work_in hand) ≡ true → IsAtHand v h by number hand → IsBetween (of_actor by h)
 between v h by number None over at = at
-between v h by number (Some m) over at = subst (λ (w : Work). IsOwn v (facts h) (of_actor by h) (of_actor by h) by w) (over-is m.work over) at.true_to.own
+between v h by number (Some m) over at = subst (λ (w : Work). IsOwnOf v (facts h) (of_actor by h) (of_actor by h) by w) (over-is m.work over) at.true_to.own
 
-module _ (kind : List ℕ) (pass : PassView) (a b : Agenda) (bins : List ℕ) (shown : List Event) (ready : IsReady kind pass a bins shown) where
+module _ (kind : List ℕ) (pass : PassView) (a b : Agenda) (bins : List ℕ) (shown : List Event) (ready : IsWorkerReady kind pass a bins shown) where
   abbrev v : Volume
   v = volume_in kind
 
-  begins-ready : IsBeginningLaw v → (op : Operation) (m : Machine) → is_over (work_in a.machine) ≡ true → a.todo.items ≡ op ∷ b.todo.items → b.machine ≡ Some m → m.layout ≡ v.layout → m.work ≡ begun op → IsReady kind pass b bins shown
+  begins-ready : IsBeginningLaw v → (op : Operation) (m : Machine) → is_over (work_in a.machine) ≡ true → a.todo.items ≡ op ∷ b.todo.items → b.machine ≡ Some m → m.layout ≡ v.layout → m.work ≡ begun op → IsWorkerReady kind pass b bins shown
   begins-ready begins op m over todo is layout work =
       let all = subst (AllByRecursion (IsOperation v pass.actor)) todo ready.todo in
       record {
@@ -121,8 +121,8 @@ module _ (kind : List ℕ) (pass : PassView) (a b : Agenda) (bins : List ℕ) (s
         shows = ready.shows;
       }
 
-  pub ready-on : IsBeginningLaw v → (layout : Layout) → layout ≡ v.layout → TakesUp layout a b → IsReady kind pass b bins shown
-  ready-on begins layout is (Works busy same) = subst (λ (s : Agenda). IsReady kind pass s bins shown) (sym same) ready
+  pub ready-on : IsBeginningLaw v → (layout : Layout) → layout ≡ v.layout → BeginsNext layout a b → IsWorkerReady kind pass b bins shown
+  ready-on begins layout is (Works busy same) = subst (λ (s : Agenda). IsWorkerReady kind pass s bins shown) (sym same) ready
   ready-on begins layout is (Rests none still number hand) = record {
     actor = ready.actor;
     todo = subst (AllByRecursion (IsOperation v pass.actor)) (sym still) tt;
@@ -137,5 +137,5 @@ module _ (kind : List ℕ) (pass : PassView) (a b : Agenda) (bins : List ℕ) (s
   pub hand-layout : (m : Machine) → a.machine ≡ Some m → m.layout ≡ v.layout
   hand-layout m is = subst (HasLayout v.layout) is ready.machine
 
-  pub hand-right : (m : Machine) → a.machine ≡ Some m → IsRight kind pass a.number m
+  pub hand-right : (m : Machine) → a.machine ≡ Some m → IsWorkRight kind pass a.number m
   hand-right m is honest = subst (IsAtHand v pass.log pass.actor a.number) is (ready.at_hand honest)

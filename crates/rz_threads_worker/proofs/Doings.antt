@@ -11,9 +11,9 @@ use Rattle.rz_operation.specs.Machine.{Machine}
 use Rattle.rz_core.specs.History.{of_actor}
 use Rattle.rz_play.specs.Faults.{missed}
 use Rattle.rz_play.specs.World.{Agenda, at_work, with_work}
-use Rattle.rz_threads_steps.specs.Turned.{GoesOn, IsTurned, IsCutOff, AreLost}
+use Rattle.rz_threads_steps.specs.Turned.{WorkGoesOn, IsTurned, IsCutOff, AreLost}
 use Rattle.rz_threads_steps.proofs.Acts.{goes-as-told}
-use Rattle.rz_threads_worker.specs.Doing.{IsDoing, Begins, Turns, HasDone, IsBegun}
+use Rattle.rz_threads_worker.specs.Doing.{IsDoing, Begins, Turns, HasDone, IsSomeDone}
 
 module _ (honest : Bool) (layout : Layout) (by : Actor) where
   -- turns after turns
@@ -41,12 +41,12 @@ module _ (honest : Bool) (layout : Layout) (by : Actor) where
         subst (λ (z : Agenda). IsStep by z.number (ask_of layout z.work) t xs) at
         (subst (λ (k : Work). IsStep by w.number (ask_of layout k) t xs) (sym work) (subst (λ (y : Layout). IsStep by w.number (ask_of y m.work) t xs) is step))
 
-    goes-at : (t : Told) (work' : Work) → GoesOn honest m.layout m.work t work' → GoesOn honest layout (at_work s).work t work'
+    goes-at : (t : Told) (work' : Work) → WorkGoesOn honest m.layout m.work t work' → WorkGoesOn honest layout (at_work s).work t work'
     goes-at t work' goes =
-        subst (λ (z : Agenda). GoesOn honest layout z.work t work') at
-        (subst (λ (k : Work). GoesOn honest layout k t work') (sym work) (subst (λ (y : Layout). GoesOn honest y m.work t work') is goes))
+        subst (λ (z : Agenda). WorkGoesOn honest layout z.work t work') at
+        (subst (λ (k : Work). WorkGoesOn honest layout k t work') (sym work) (subst (λ (y : Layout). WorkGoesOn honest y m.work t work') is goes))
 
-    stepped : (t : Told) (xs : List Event) (work' : Work) → of_actor by new ≡ xs ++ of_actor by old → IsStep by w.number (ask_of m.layout m.work) t xs → GoesOn honest m.layout m.work t work'
+    stepped : (t : Told) (xs : List Event) (work' : Work) → of_actor by new ≡ xs ++ of_actor by old → IsStep by w.number (ask_of m.layout m.work) t xs → WorkGoesOn honest m.layout m.work t work'
         → HasDone honest layout by s (with_work w work') old new
     stepped t xs work' own step goes = record {
       run = xs;
@@ -58,7 +58,7 @@ module _ (honest : Bool) (layout : Layout) (by : Actor) where
     pub turn-done : (m' : Machine) → IsTurned honest by w.number old new m m' → HasDone honest layout by s (with_work w m'.work) old new
     turn-done m' it = stepped it.answer it.events m'.work it.own it.step it.goes
 
-    pub cut-begun : IsCutOff by w.number old new m → IsBegun honest layout by s old new
+    pub cut-begun : IsCutOff by w.number old new m → IsSomeDone honest layout by s old new
     cut-begun it = elim it.some [
       | inl none ↦ (s, none-done s old new (it.own ∙ ap (λ (xs : List Event). xs ++ of_actor by old) none))
       | inr step ↦ (with_work w (told m.layout m.work step.0), stepped step.0 it.events (told m.layout m.work step.0) it.own step.1 (goes-as-told honest m.layout m.work step.0))

@@ -13,11 +13,11 @@ use Rattle.rz_play.specs.World.{Agenda as APlayer}
 use Rattle.rz_chronicle.specs.Kinds.{is_honest, volume_in}
 use Rattle.rz_chronicle.specs.Rules.{PassView}
 use Rattle.rz_show.specs.Shown.{shown_of}
-use Rattle.rz_threads_steps.specs.Acted.{Lasts, HasActed}
+use Rattle.rz_threads_steps.specs.Acted.{PassLasts, HasActed}
 use Rattle.rz_threads_steps.specs.Turned.{IsCutOff, AreLost}
-use Rattle.rz_threads_worker.specs.declared.agenda.Agenda.{Agenda}
-use Rattle.rz_threads_worker.specs.Doing.{HasDone, IsBegun}
-use Rattle.rz_threads_worker.specs.Workers.{IsReady, TakesUp, agenda_of, work_in}
+use Rattle.rz_threads_worker.specs.declared.worker_agenda.Agenda.{Agenda}
+use Rattle.rz_threads_worker.specs.Doing.{HasDone, IsSomeDone}
+use Rattle.rz_threads_worker.specs.Workers.{IsWorkerReady, BeginsNext, agenda_of, work_in}
 use Rattle.rz_threads_worker.proofs.Doings.{turn-done, cut-begun, done-on, lost-on}
 use Rattle.rz_threads_worker.proofs.Agendas.{taken-up}
 
@@ -29,13 +29,13 @@ written n xs ys same is =
     let left = length-drop (length xs) ys in
     omega (arith, taken, both, left, same, is)
 
-module _ (kind : List ℕ) (p q : PassView) (s : Agenda) (m m' : Machine) (bins bins' : List ℕ) (shown shown' : List Event) (ready : IsReady kind p s bins shown) (lasts : Lasts kind p q) where
+module _ (kind : List ℕ) (p q : PassView) (s : Agenda) (m m' : Machine) (bins bins' : List ℕ) (shown shown' : List Event) (ready : IsWorkerReady kind p s bins shown) (lasts : PassLasts kind p q) where
   abbrev v : Volume
   v = volume_in kind
 
   -- it can take its next turn
   pub ready-again : HasActed kind s.number p q m m' → m.layout ≡ v.layout → length bins' ≡ length bins → shown' ≡ shown_of (of_actor p.actor q.log)
-      → IsReady kind q (record s { machine = Some m' }) bins' shown'
+      → IsWorkerReady kind q (record s { machine = Some m' }) bins' shown'
   ready-again acted layout many shows = record {
     actor = λ is. ready.actor (sym lasts.actor ∙ is);
     todo = subst (λ (a : Actor). AllByRecursion (IsOperation v a) s.todo.items) (sym lasts.actor) ready.todo;
@@ -47,18 +47,18 @@ module _ (kind : List ℕ) (p q : PassView) (s : Agenda) (m m' : Machine) (bins 
 
 -- ---- what a turn makes of the actor's operations
 
-module _ (kind : List ℕ) (p q : PassView) (layout : Layout) (a b : Agenda) (m : Machine) (of_volume : layout ≡ (volume_in kind).layout) (takes : TakesUp layout a b) (is : b.machine ≡ Some m) (of_layout : m.layout ≡ (volume_in kind).layout) where
+module _ (kind : List ℕ) (p q : PassView) (layout : Layout) (a b : Agenda) (m : Machine) (of_volume : layout ≡ (volume_in kind).layout) (takes : BeginsNext layout a b) (is : b.machine ≡ Some m) (of_layout : m.layout ≡ (volume_in kind).layout) where
   pub turn-taken : (m' : Machine) → HasActed kind b.number p q m m'
       → HasDone (is_honest kind) (volume_in kind).layout p.actor (agenda_of a) (agenda_of (record b { machine = Some m' })) p.log q.log
   turn-taken m' acted =
       turn-done (is_honest kind) (volume_in kind).layout p.actor (agenda_of a) (agenda_of b) m p.log q.log (taken-up layout a b takes) (ap work_in is) of_layout m' acted.turned
 
-  pub turn-begun : IsCutOff p.actor b.number p.log q.log m → IsBegun (is_honest kind) (volume_in kind).layout p.actor (agenda_of a) p.log q.log
+  pub turn-begun : IsCutOff p.actor b.number p.log q.log m → IsSomeDone (is_honest kind) (volume_in kind).layout p.actor (agenda_of a) p.log q.log
   turn-begun cut = cut-begun (is_honest kind) (volume_in kind).layout p.actor (agenda_of a) (agenda_of b) m p.log q.log (taken-up layout a b takes) (ap work_in is) of_layout cut
 
 -- ---- turns after turns, of one actor
 
-module _ (kind : List ℕ) (p q r : PassView) (lasts : Lasts kind p q) where
+module _ (kind : List ℕ) (p q r : PassView) (lasts : PassLasts kind p q) where
   pub done-both : (honest : Bool) (layout : Layout) (from mid last : APlayer) → HasDone honest layout p.actor from mid p.log q.log → HasDone honest layout q.actor mid last q.log r.log → HasDone honest layout p.actor from last p.log r.log
   done-both honest layout from mid last first next = done-on honest layout p.actor from mid last p.log q.log r.log first (subst (λ (a : Actor). HasDone honest layout a mid last q.log r.log) lasts.actor next)
 

@@ -6,7 +6,7 @@ use Rattle.rz_events.specs.declared.events.Event.{Event}
 use Rattle.rz_operation.specs.Machine.{Machine}
 use Rattle.rz_play.specs.World.{Agenda, at_work, with_work}
 use Rattle.rz_threads_steps.specs.Turned.{IsTurned, IsCutOff}
-use Rattle.rz_threads_worker.specs.Doing.{HasDone, IsBegun}
+use Rattle.rz_threads_worker.specs.Doing.{HasDone, IsSomeDone}
 
 -- an actor goes to work with this machine
 pub record IsAtWork (layout : Layout) (from s : Agenda) (m : Machine) : Type 0 where
@@ -22,7 +22,7 @@ IsTurnLaw = (honest : Bool) (layout : Layout) (by : Actor) (from s : Agenda) (ol
 -- one that was cut off is a beginning of one
 abbrev pub IsCutLaw : Type 0
 IsCutLaw = (honest : Bool) (layout : Layout) (by : Actor) (from s : Agenda) (old new : List Event) (m : Machine) → IsAtWork layout from s m
-    → IsCutOff by s.number old new m → IsBegun honest layout by from old new
+    → IsCutOff by s.number old new m → IsSomeDone honest layout by from old new
 
 -- turns after turns are turns
 abbrev pub IsOrderLaw : Type 0

@@ -19,7 +19,7 @@ use Rattle.rz_block_laws.specs.Acting.{IsActing}
 use Rattle.rz_chronicle.specs.Kinds.{is_honest, volume_in}
 use Rattle.rz_chronicle.specs.Rules.{PassView}
 use Rattle.rz_show.specs.Shown.{shown_of}
-use Rattle.rz_threads_worker.specs.declared.agenda.Agenda.{Agenda}
+use Rattle.rz_threads_worker.specs.declared.worker_agenda.Agenda.{Agenda}
 use Rattle.rz_threads_worker.specs.Doing.{HasDone}
 
 abbrev pub work_in : Option Machine → Work
@@ -41,7 +41,7 @@ IsAtHand v h by number None = IsBetween (of_actor by h)
 IsAtHand v h by number (Some m) = IsActing v h by number m
 
 -- A client or a rebuilder that can take its next turn: `bins` has room for a record, and `shown` its events that are shown.
-pub record IsReady (kind : List ℕ) (pass : PassView) (agenda : Agenda) (bins : List ℕ) (shown : List Event) : Type 0 where
+pub record IsWorkerReady (kind : List ℕ) (pass : PassView) (agenda : Agenda) (bins : List ℕ) (shown : List Event) : Type 0 where
   pub actor : ¬ (pass.actor ≡ Admin)
   pub todo : AllByRecursion (IsOperation (volume_in kind) pass.actor) agenda.todo.items
   pub machine : HasLayout (volume_in kind).layout agenda.machine
@@ -50,11 +50,11 @@ pub record IsReady (kind : List ℕ) (pass : PassView) (agenda : Agenda) (bins :
   pub shows : shown ≡ shown_of (of_actor pass.actor pass.log)
 
 -- An operation in hand stays there. Where none is in hand the next one begins, or nothing is left to do.
-pub data TakesUp (layout : Layout) (a b : Agenda) : Type 0 where
-  Works : is_over (work_in a.machine) ≡ false → b ≡ a → TakesUp layout a b
-  Rests : a.todo.items ≡ [] → b.todo.items ≡ [] → b.number ≡ a.number → b.machine ≡ a.machine → TakesUp layout a b
+pub data BeginsNext (layout : Layout) (a b : Agenda) : Type 0 where
+  Works : is_over (work_in a.machine) ≡ false → b ≡ a → BeginsNext layout a b
+  Rests : a.todo.items ≡ [] → b.todo.items ≡ [] → b.number ≡ a.number → b.machine ≡ a.machine → BeginsNext layout a b
   Begins : (op : Operation) (m : Machine) → is_over (work_in a.machine) ≡ true → a.todo.items ≡ op ∷ b.todo.items → b.number ≡ a.number + 1
-      → b.machine ≡ Some m → m.layout ≡ layout → m.work ≡ begun op → TakesUp layout a b
+      → b.machine ≡ Some m → m.layout ≡ layout → m.work ≡ begun op → BeginsNext layout a b
 
 -- an agenda with these operations, of which none has begun
 abbrev pub agenda_with : List Operation → APlayer

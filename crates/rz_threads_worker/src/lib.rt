@@ -7,18 +7,18 @@
 //!
 //! `laws` says what turns make of an actor's operations, one after another.
 //!
-//! In reading order: `acting`, `agenda`, `worker`, `working`, `laws`.
+//! In reading order: `worker_acts`, `worker_agenda`, `worker`, `working`, `laws`.
 #![tactic(auto)]
 
-mod acting;
-mod agenda;
 mod laws;
 mod worker;
+mod worker_acts;
+mod worker_agenda;
 mod working;
 
-pub use agenda::Agenda;
 pub use laws::{cut_off, in_order, turned};
 pub use rz_player::Halted;
 pub use rz_threads_steps::SharedStore;
 pub use worker::Worker;
+pub use worker_agenda::Agenda;
 pub use working::work;

@@ -5,9 +5,9 @@ ghost use Rattle.mj_angles.specs.Layout.{max_bins_of};
 ghost use Rattle.rz_core.specs.History.{of_actor};
 ghost use Rattle.rz_chronicle.specs.Kinds.{volume_in};
 ghost use Rattle.rz_script.specs.Lines.{IsOperation};
-ghost use Rattle.rz_threads_worker.specs.Workers.{agenda_of, agenda_with, IsReady};
+ghost use Rattle.rz_threads_worker.specs.Workers.{agenda_of, agenda_with, IsWorkerReady};
 
-use crate::agenda::Agenda;
+use crate::worker_agenda::Agenda;
 use rz_chronicle::Pass;
 use rz_events::{Actor, Event, Operation};
 use rz_link::Link;
@@ -39,7 +39,7 @@ impl<J: Counting, L: Link> Worker<J, L> {
         requires fresh { of_actor pass.actor pass.log ≡ [] }
         requires todo { AllByRecursion (IsOperation (volume_in J.kind) pass.actor) todo.items }
         requires room { max_bins_of (volume_in J.kind).layout ≤ length bins.items }
-        ensures ready { IsReady J.kind result.pass result.agenda result.bins.items result.shown.items }
+        ensures ready { IsWorkerReady J.kind result.pass result.agenda result.bins.items result.shown.items }
         ensures pass { result.pass ≡ pass }
         ensures link { result.link ≡ link }
         ensures agenda { agenda_of result.agenda ≡ agenda_with todo.items }

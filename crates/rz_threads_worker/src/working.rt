@@ -4,13 +4,13 @@ ghost use Rattle.rz_core.specs.History.{of_actor};
 ghost use Rattle.rz_chronicle.specs.Keys.{IsLater};
 ghost use Rattle.rz_chronicle.specs.Kinds.{IsFit, is_honest, volume_in};
 ghost use Rattle.rz_show.specs.Shown.{shown_of};
-ghost use Rattle.rz_threads_steps.specs.Acted.{Lasts};
+ghost use Rattle.rz_threads_steps.specs.Acted.{PassLasts};
 ghost use Rattle.rz_threads_steps.specs.Turned.{AreLost};
-ghost use Rattle.rz_threads_worker.specs.Doing.{HasDone, IsBegun};
-ghost use Rattle.rz_threads_worker.specs.Workers.{IsAllDone, IsReady, agenda_of};
+ghost use Rattle.rz_threads_worker.specs.Doing.{HasDone, IsSomeDone};
+ghost use Rattle.rz_threads_worker.specs.Workers.{IsAllDone, IsWorkerReady, agenda_of};
 
-use crate::acting::act;
 use crate::worker::Worker;
+use crate::worker_acts::act;
 use rz_disk::Disk;
 use rz_link::Link;
 use rz_player::Halted;
@@ -28,18 +28,18 @@ fn take_turn<R: Threads + Wait + Sync, D: Disk, J: Counting, L: Link>(
     worker: &mut Worker<J, L>,
 ) -> Result<(), Halted>
     requires volume { store.now.volume ≡ volume_in J.kind }
-    requires ready { IsReady J.kind worker.old.pass worker.old.agenda worker.old.bins.items worker.old.shown.items }
-    ensures lasts { Lasts J.kind worker.old.pass worker.new.pass }
+    requires ready { IsWorkerReady J.kind worker.old.pass worker.old.agenda worker.old.bins.items worker.old.shown.items }
+    ensures lasts { PassLasts J.kind worker.old.pass worker.new.pass }
     ensures lost { AreLost worker.old.pass.actor worker.old.pass.log worker.new.pass.log (L.lost worker.old.link) (L.lost worker.new.link) }
     ensures shown { worker.new.shown.items ≡ shown_of (of_actor worker.old.pass.actor worker.new.pass.log) }
-    ensures ready { OnOk result (IsReady J.kind worker.new.pass worker.new.agenda worker.new.bins.items worker.new.shown.items) }
+    ensures ready { OnOk result (IsWorkerReady J.kind worker.new.pass worker.new.agenda worker.new.bins.items worker.new.shown.items) }
     ensures done { OnOk result (HasDone (is_honest J.kind) (volume_in J.kind).layout worker.old.pass.actor (agenda_of worker.old.agenda) (agenda_of worker.new.agenda) worker.old.pass.log worker.new.pass.log) }
-    ensures begun { OnErr result (IsBegun (is_honest J.kind) (volume_in J.kind).layout worker.old.pass.actor (agenda_of worker.old.agenda) worker.old.pass.log worker.new.pass.log) }
+    ensures begun { OnErr result (IsSomeDone (is_honest J.kind) (volume_in J.kind).layout worker.old.pass.actor (agenda_of worker.old.agenda) worker.old.pass.log worker.new.pass.log) }
 {
     rz_block_laws::acting::begins();
     let _fit = worker.pass.actor();
     let layout = store.layout();
-    worker.agenda.take_up(rt, alloc, layout)?;
+    worker.agenda.begin_next(rt, alloc, layout)?;
     let number = worker.agenda.number;
     let Some(machine) = &mut worker.agenda.machine else {
         return Err(Halted);
@@ -82,11 +82,11 @@ pub fn work<R: Threads + Wait + Sync, D: Disk, J: Counting, L: Link>(
     worker: &mut Worker<J, L>,
 ) -> Result<(), Halted>
     requires volume { store.now.volume ≡ volume_in J.kind }
-    requires ready { IsReady J.kind worker.old.pass worker.old.agenda worker.old.bins.items worker.old.shown.items }
+    requires ready { IsWorkerReady J.kind worker.old.pass worker.old.agenda worker.old.bins.items worker.old.shown.items }
     ensures same { (worker.new.pass.actor ≡ worker.old.pass.actor) × (worker.new.pass.keys ≡ worker.old.pass.keys) }
     ensures later { IsLater worker.old.pass.log worker.new.pass.log }
     ensures done { OnOk result (IsAllDone (is_honest J.kind) (volume_in J.kind).layout worker.old.pass.actor (agenda_of worker.old.agenda) worker.old.pass.log worker.new.pass.log) }
-    ensures begun { OnErr result (IsBegun (is_honest J.kind) (volume_in J.kind).layout worker.old.pass.actor (agenda_of worker.old.agenda) worker.old.pass.log worker.new.pass.log) }
+    ensures begun { OnErr result (IsSomeDone (is_honest J.kind) (volume_in J.kind).layout worker.old.pass.actor (agenda_of worker.old.agenda) worker.old.pass.log worker.new.pass.log) }
     ensures lost { AreLost worker.old.pass.actor worker.old.pass.log worker.new.pass.log (L.lost worker.old.link) (L.lost worker.new.link) }
     ensures shown { worker.new.shown.items ≡ shown_of (of_actor worker.old.pass.actor worker.new.pass.log) }
     ensures fit { IsFit J.kind worker.new.pass.log }

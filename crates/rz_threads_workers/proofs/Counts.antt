@@ -6,7 +6,7 @@ use Rattle.rz_events.specs.declared.events.Event.{Event}
 use Rattle.rz_chronicle.specs.Keys.{IsLater, IsOneOf, count_at, events_at, moves_of, owner, touches, word_key}
 use Rattle.rz_chronicle.specs.Holds.{Stays}
 use Rattle.rz_chronicle.specs.Rules.{PassView}
-use Rattle.rz_threads_workers.specs.Gathered.{GoesOn}
+use Rattle.rz_threads_workers.specs.Gathered.{PassGoesOn}
 use Rattle.rz_threads_workers.specs.Moves.{HoldsAll}
 
 -- how many events of the words at the first places of a book of these nodes a history has
@@ -24,10 +24,10 @@ one-of-left : (k : ℕ) (xs ys : List ℕ) → IsOneOf k xs → IsOneOf k (xs ++
 one-of-left k [] ys h = absurd h
 one-of-left k (x ∷ xs) ys h = elim h [ inl e ↦ inl e | inr more ↦ inr (one-of-left k xs ys more) ]
 
-goes-nowhere : (p : PassView) → GoesOn p p
+goes-nowhere : (p : PassView) → PassGoesOn p p
 goes-nowhere p = record { actor = refl; more = []; keys = sym (append-nil p.keys); stays = λ k is. refl; later = ([], refl) }
 
-goes-further : (a b c : PassView) → GoesOn a b → GoesOn b c → GoesOn a c
+goes-further : (a b c : PassView) → PassGoesOn a b → PassGoesOn b c → PassGoesOn a c
 goes-further a b c p q = record {
   actor = q.actor ∙ p.actor;
   more = p.more ++ q.more;
@@ -70,7 +70,7 @@ module _ (sids ks : List ℕ) (old new : List Event) (holds : HoldsAll sids ks) 
 
 -- the words at the first places are counted
 pub record Counted (sids : List ℕ) (old now : PassView) (place sum : ℕ) : Type 0 where
-  pub goes : GoesOn old now
+  pub goes : PassGoesOn old now
   pub few : place ≤ 338
   pub sum_is : sum ≡ moves_before place sids old.log
 
@@ -82,7 +82,7 @@ pub counted-first : (sids : List ℕ) (p : PassView) → Counted sids p p 0 0
 counted-first sids p = record { goes = goes-nowhere p; few = omega arith; sum_is = none-moved sids p.log }
 
 -- one step of a pass that keeps its tokens
-steps-on : (mid new : PassView) → new.actor ≡ mid.actor → new.keys ≡ mid.keys → IsLater mid.log new.log → Stays mid.keys mid.log new.log → GoesOn mid new
+steps-on : (mid new : PassView) → new.actor ≡ mid.actor → new.keys ≡ mid.keys → IsLater mid.log new.log → Stays mid.keys mid.log new.log → PassGoesOn mid new
 steps-on mid new actor keys later stays = record { actor = actor; more = []; keys = keys ∙ sym (append-nil mid.keys); stays = stays; later = later }
 
 pub counted-more : (sids : List ℕ) (old mid new : PassView) (place sum count all : ℕ) → HoldsAll sids old.keys → place < 338 → Counted sids old mid place sum

@@ -4,6 +4,6 @@ mod Rosters
 mod Gathered
 mod Pairs
 mod Rolls
-mod Recruits
+mod PartsMade
 mod MakingPools
 mod Taken

@@ -7,7 +7,7 @@ use Rattle.rz_events.specs.declared.keys.Actor.TheVariants.{Client, Rebuilder}
 use Rattle.rz_play.specs.World.{actors}
 use Rattle.rz_chronicle.specs.Rules.{PassView}
 use Rattle.rz_chronicle.specs.Dealing.{new_pass, ArePasses}
-use Rattle.rz_threads_workers.specs.WorkerPool.{IsNew}
+use Rattle.rz_threads_workers.specs.WorkerPool.{IsNewPass}
 
 -- passes that are told one by one, as a row
 dealt : (make : ℕ → Actor) (from n : ℕ) (ps : List PassView) → ArePasses n (λ i. make (i + from)) ps → ps ≡ map new_pass (map make (range_with_len from n))
@@ -32,15 +32,15 @@ all-dealt clients rebuilders first then =
 
 -- Each of these passes is new, and there are 80.
 
-clients : (from count : ℕ) (more : List Actor) → AllByRecursion IsNew (map new_pass more) → AllByRecursion IsNew (map new_pass (map Client (range_with_len from count) ++ more))
+clients : (from count : ℕ) (more : List Actor) → AllByRecursion IsNewPass (map new_pass more) → AllByRecursion IsNewPass (map new_pass (map Client (range_with_len from count) ++ more))
 clients from zero more all = all
 clients from (suc count) more all = ((λ same. absurd (cc), refl), clients (from + 1) count more all)
 
-rebuilders : (from count : ℕ) → AllByRecursion IsNew (map new_pass (map Rebuilder (range_with_len from count)))
+rebuilders : (from count : ℕ) → AllByRecursion IsNewPass (map new_pass (map Rebuilder (range_with_len from count)))
 rebuilders from zero = tt
 rebuilders from (suc count) = ((λ same. absurd (cc), refl), rebuilders (from + 1) count)
 
-pub all-new : AllByRecursion IsNew (map new_pass actors)
+pub all-new : AllByRecursion IsNewPass (map new_pass actors)
 all-new = clients 1 64 (map Rebuilder (range_with_len 1 16)) (rebuilders 1 16)
 
 pub eighty : length (map new_pass actors) ≡ 80

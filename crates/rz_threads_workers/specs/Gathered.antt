@@ -8,13 +8,13 @@ use Rattle.rz_chronicle.specs.Rules.{PassView}
 
 -- The pass holds the token of the other one's actor, whose events in the log are those that the other one has seen, and the token
 -- of the actor's own word.
-pub record IsHeld (front other : PassView) : Type 0 where
+pub record HoldsPass (front other : PassView) : Type 0 where
   pub held : IsOneOf (actor_key other.actor) front.keys
   pub word : IsOneOf (word_key (Own other.actor)) front.keys
   pub own : of_actor other.actor front.log ≡ of_actor other.actor other.log
 
 -- The pass went on: it lost no token, and the events of those that it held are still the same.
-pub record GoesOn (old new : PassView) : Type 0 where
+pub record PassGoesOn (old new : PassView) : Type 0 where
   pub actor : new.actor ≡ old.actor
   pub more : List ℕ
   pub keys : new.keys ≡ old.keys ++ more
@@ -23,4 +23,4 @@ pub record GoesOn (old new : PassView) : Type 0 where
 
 -- What a pass holds of another's actor, it holds when it has gone on.
 abbrev pub IsHeldLaw : Type 0
-IsHeldLaw = (other old new : PassView) → GoesOn old new → IsHeld old other → IsHeld new other
+IsHeldLaw = (other old new : PassView) → PassGoesOn old new → HoldsPass old other → HoldsPass new other

@@ -16,8 +16,8 @@ use Rattle.rz_chronicle.specs.Kinds.{IsFit, is_honest, volume_in}
 use Rattle.rz_chronicle.specs.Rules.{PassView}
 use Rattle.rz_show.specs.Shown.{shown_of}
 use Rattle.rz_threads_steps.specs.Turned.{AreLost}
-use Rattle.rz_threads_worker.specs.Doing.{IsBegun}
-use Rattle.rz_threads_worker.specs.Workers.{IsAllDone, IsReady, agenda_of, agenda_with}
+use Rattle.rz_threads_worker.specs.Doing.{IsSomeDone}
+use Rattle.rz_threads_worker.specs.Workers.{IsAllDone, IsWorkerReady, agenda_of, agenda_with}
 use Rattle.rz_threads_workers.specs.declared.pool_worker.PoolWorker.{PoolWorker}
 use Rattle.rz_threads_workers.specs.declared.pool_worker.Results.{Results}
 use Rattle.rz_threads_workers.specs.declared.worker_parts.WorkerParts.{WorkerParts}
@@ -38,7 +38,7 @@ shown_by m = m.worker.shown
 
 -- it can take its next turn
 abbrev pub CanWork : {J L : Type 0} → List ℕ → PoolWorker J L → Type 0
-CanWork kind m = IsReady kind m.worker.pass m.worker.agenda m.worker.bins.items m.worker.shown.items
+CanWork kind m = IsWorkerReady kind m.worker.pass m.worker.agenda m.worker.bins.items m.worker.shown.items
 
 -- memory was not wanting for it
 abbrev pub WantsNothing : {J L : Type 0} → PoolWorker J L → Type 0
@@ -47,12 +47,12 @@ WantsNothing m = m.wanting ≡ false
 -- How a worker comes to work.
 
 -- the pass of a client or a rebuilder that has done nothing
-abbrev pub IsNew : PassView → Type 0
-IsNew p = (¬ (p.actor ≡ Admin)) × (of_actor p.actor p.log ≡ [])
+abbrev pub IsNewPass : PassView → Type 0
+IsNewPass p = (¬ (p.actor ≡ Admin)) × (of_actor p.actor p.log ≡ [])
 
 -- one with a link can work
 pub record CanJoin {J : Type 0} (kind : List ℕ) (r : WorkerParts J) : Type 0 where
-  pub new : IsNew r.pass
+  pub new : IsNewPass r.pass
   pub limits : AllByRecursion (IsOperation (volume_in kind) r.pass.actor) r.todo.items
   pub room : max_bins_of (volume_in kind).layout ≤ length r.bins.items
 
@@ -85,7 +85,7 @@ pub record HasWorked {J L : Type 0} (count : L → ℕ) (kind : List ℕ) (old n
   pub keys : new.worker.pass.keys ≡ old.worker.pass.keys
   pub later : IsLater old.worker.pass.log new.worker.pass.log
   pub done : WantsNothing new → IsAllDone (is_honest kind) (volume_in kind).layout (actor_of old) (agenda_of old.worker.agenda) old.worker.pass.log new.worker.pass.log
-  pub begun : IsBegun (is_honest kind) (volume_in kind).layout (actor_of old) (agenda_of old.worker.agenda) old.worker.pass.log new.worker.pass.log
+  pub begun : IsSomeDone (is_honest kind) (volume_in kind).layout (actor_of old) (agenda_of old.worker.agenda) old.worker.pass.log new.worker.pass.log
   pub lost : AreLost (actor_of old) old.worker.pass.log new.worker.pass.log (count old.worker.link) (count new.worker.link)
   pub shown : new.worker.shown.items ≡ shown_of (of_actor (actor_of old) new.worker.pass.log)
   pub fit : IsFit kind new.worker.pass.log
@@ -93,11 +93,11 @@ pub record HasWorked {J L : Type 0} (count : L → ℕ) (kind : List ℕ) (old n
 -- What comes back.
 
 -- an empty row with room for so many
-abbrev pub HasRoom : {A : Type 0} → ℕ → Vec A → Type 0
-HasRoom n row = (vec_len row ≡ 0) × (n ≤ vec_capacity row)
+abbrev pub IsRowFor : {A : Type 0} → ℕ → Vec A → Type 0
+IsRowFor n row = (vec_len row ≡ 0) × (n ≤ vec_capacity row)
 
 -- room for what comes back from so many workers
 pub record IsRoomFor {J L : Type 0} (n : ℕ) (room : Results J L) : Type 0 where
-  pub links : HasRoom n room.links
-  pub passes : HasRoom n room.passes
-  pub shown : HasRoom n room.shown
+  pub links : IsRowFor n room.links
+  pub passes : IsRowFor n room.passes
+  pub shown : IsRowFor n room.shown

@@ -2,7 +2,7 @@
 ghost use Rattle.std.specs.Prelude.{◌≡◌, ◌+◌, length};
 ghost use Rattle.rz_chronicle.specs.Keys.{sids_of};
 ghost use Rattle.rz_chronicle.specs.Kinds.{IsFit};
-ghost use Rattle.rz_threads_workers.specs.Gathered.{GoesOn};
+ghost use Rattle.rz_threads_workers.specs.Gathered.{PassGoesOn};
 ghost use Rattle.rz_threads_workers.specs.Moves.{HoldsAll};
 
 use rz_chronicle::{Book, Naming, Pass};
@@ -34,7 +34,7 @@ fn sum_of<R: Wait>(rt: &R, one: u64, other: u64) -> u64
 /// counted.
 pub fn count_all<R: Wait, J: Naming>(rt: &R, book: &Book<J>, pass: &mut Pass<J>) -> u64
     requires held { HoldsAll (sids_of book.now) pass.old.keys }
-    ensures goes { GoesOn pass.old pass.new }
+    ensures goes { PassGoesOn pass.old pass.new }
     ensures count { result ≡ length pass.new.log }
     ensures old { result ≡ length pass.old.log }
     ensures fit { IsFit J.kind pass.new.log }

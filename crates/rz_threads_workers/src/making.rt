@@ -6,7 +6,7 @@ ghost use Rattle.rz_chronicle.specs.Dealing.{new_pass};
 ghost use Rattle.rz_chronicle.specs.Kinds.{volume_in};
 ghost use Rattle.rz_script.specs.Lines.{AreLines};
 ghost use Rattle.rz_play.specs.World.{actors};
-ghost use Rattle.rz_threads_workers.specs.WorkerPool.{link_of, CanJoin, HasRoom, IsMadeOf, IsNew, AreWorkerParts, IsRoomFor, IsPoolWorker};
+ghost use Rattle.rz_threads_workers.specs.WorkerPool.{link_of, CanJoin, IsRowFor, IsMadeOf, IsNewPass, AreWorkerParts, IsRoomFor, IsPoolWorker};
 
 use crate::pool_worker::{PoolWorker, Results, WorkerPool};
 use crate::worker_parts::{WorkerParts, make_parts};
@@ -37,11 +37,11 @@ fn prepare<J: Counting, L: Link>(
 ) -> Result<PoolParts<J, L>, AllocError>
     requires layout { layout ≡ (volume_in J.kind).layout }
     requires lines { AreLines (volume_in J.kind) lines.now }
-    requires new { AllByRecursion IsNew passes.items }
+    requires new { AllByRecursion IsNewPass passes.items }
     ensures all_parts { IfOk result (λ o. AllZip (AreWorkerParts J.kind lines.now) passes.items o.all_parts.items) }
-    ensures workers { IfOk result (λ o. HasRoom (length passes.items) o.workers) }
-    ensures passes { IfOk result (λ o. HasRoom (length passes.items) o.passes) }
-    ensures shown { IfOk result (λ o. HasRoom (length passes.items) o.shown) }
+    ensures workers { IfOk result (λ o. IsRowFor (length passes.items) o.workers) }
+    ensures passes { IfOk result (λ o. IsRowFor (length passes.items) o.passes) }
+    ensures shown { IfOk result (λ o. IsRowFor (length passes.items) o.shown) }
 {
     let count = passes.len();
     let all_parts = make_parts(alloc, layout, passes, lines)?;
@@ -78,11 +78,11 @@ fn make_workers<J: Counting, L: Link>(
     links: Vec<L>,
 ) -> (Vec<PoolWorker<J, L>>, Vec<L>)
     requires can { AllByRecursion (CanJoin J.kind) all_parts.items }
-    requires room { HasRoom (length all_parts.items) room }
+    requires room { IsRowFor (length all_parts.items) room }
     requires links { length links.items ≡ length all_parts.items }
     ensures hired { AllZip (IsMadeOf J.kind) all_parts.items result.0.items }
     ensures links { map link_of result.0.items ≡ links.items }
-    ensures empty { HasRoom (length all_parts.items) result.1 }
+    ensures empty { IsRowFor (length all_parts.items) result.1 }
 {
     let mut workers = room;
     let mut links = links;

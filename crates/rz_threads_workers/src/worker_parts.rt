@@ -3,7 +3,7 @@ ghost use Rattle.std.specs.Prelude.{◌≡◌, IfOk};
 ghost use Rattle.std.specs.List.{AllByRecursion, AllZip};
 ghost use Rattle.rz_chronicle.specs.Kinds.{volume_in};
 ghost use Rattle.rz_script.specs.Lines.{AreLines};
-ghost use Rattle.rz_threads_workers.specs.WorkerPool.{IsNew, AreWorkerParts};
+ghost use Rattle.rz_threads_workers.specs.WorkerPool.{IsNewPass, AreWorkerParts};
 
 use crate::operations_of;
 use mj_angles::Layout;
@@ -30,7 +30,7 @@ fn parts_of<J: Counting>(
 ) -> Result<WorkerParts<J>, AllocError>
     requires layout { layout ≡ (volume_in J.kind).layout }
     requires lines { AreLines (volume_in J.kind) lines.now }
-    requires new { IsNew pass }
+    requires new { IsNewPass pass }
     ensures { IfOk result (λ r. AreWorkerParts J.kind lines.now pass r) }
 {
     let todo = operations_of(alloc, pass.actor(), lines)?;
@@ -47,7 +47,7 @@ pub(crate) fn make_parts<J: Counting>(
 ) -> Result<Vec<WorkerParts<J>>, AllocError>
     requires layout { layout ≡ (volume_in J.kind).layout }
     requires lines { AreLines (volume_in J.kind) lines.now }
-    requires new { AllByRecursion IsNew passes.items }
+    requires new { AllByRecursion IsNewPass passes.items }
     ensures { IfOk result (λ rs. AllZip (AreWorkerParts J.kind lines.now) passes.items rs.items) }
 {
     let mut all_parts = Vec::with_capacity(alloc, passes.len())?;

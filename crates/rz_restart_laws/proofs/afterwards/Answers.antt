@@ -1,4 +1,4 @@
-use Rattle.rz_restart_laws.proofs.GoesOn as laws
+use Rattle.rz_restart_laws.proofs.CanGoOn as laws
 use Rattle.rz_restart_laws.proofs.afterwards.Goals as goal
 
 pub returns : goal.returns

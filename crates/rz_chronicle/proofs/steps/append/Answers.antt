@@ -24,7 +24,7 @@ compare_exchange-found-requires g c =
 
 pub back-requires : goal.back-requires
 back-requires g c =
-    ((c.args.tokens.tallies, (c.args.tokens.copy, c.args.tokens.kind)), c.into_gain.ensures.0 ∙ (c.compare_exchange-found.ensures.2 ∙ c.offer-offer.ensures.0))
+    ((c.args.tokens.counters, (c.args.tokens.copy, c.args.tokens.kind)), c.into_gain.ensures.0 ∙ (c.compare_exchange-found.ensures.2 ∙ c.offer-offer.ensures.0))
 
 pub returns-clause-held : goal.returns-clause-held
 returns-clause-held g c =

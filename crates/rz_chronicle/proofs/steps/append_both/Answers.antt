@@ -3,7 +3,7 @@ use Rattle.rz_events.specs.declared.events.Event.{Event}
 use Rattle.rz_events.specs.Events.{word_of}
 use Rattle.rz_chronicle.specs.Keys.{rows, word_key}
 use Rattle.rz_chronicle.specs.Kinds.{HasPlace, MayFit, history}
-use Rattle.rz_chronicle.specs.Tokens.{at, counts, AllInRow, Covers, Ends, HasCount}
+use Rattle.rz_chronicle.specs.Tokens.{at, counts, AllInRow, Covers, EndsOnEvent, HasCount}
 use Rattle.rz_chronicle.proofs.Joint.{joined, all-right, first-count, first-without, first-held, moved-by-one, both-commit}
 use Rattle.rz_chronicle.proofs.steps.append_both.Goals as goal
 
@@ -74,5 +74,5 @@ returns-clause-commits g c =
     let e : c.join.result.held ≡ (c.args.key, c.args.moved) ∷ c.args.mine.held = joined c.args.key c.args.moved c.args.mine.held c.args.its.held c.join.result.held c.requires.its.0 c.join.ensures.3 in
     let right = all-right c.args.key c.args.moved c.args.mine.log c.args.mine.held c.args.its.held c.join.result.held c.requires.its.0 c.join.ensures.3 c.requires.its.2 c.requires.mine.0.right in
     let new = c.append-tokens.new.seen.log in
-    let ends : Ends c.join.result.held c.args.mine.log x new = subst (λ (l : List Event). Ends c.join.result.held l x new) (sym c.requires.mine.2) c.append-tokens.ensures.ends in
+    let ends : EndsOnEvent c.join.result.held c.args.mine.log x new = subst (λ (l : List Event). EndsOnEvent c.join.result.held l x new) (sym c.requires.mine.2) c.append-tokens.ensures.ends in
     both-commit c.args.key c.args.moved c.args.mine.held c.join.result.held x c.args.mine.log new e right ends

@@ -58,7 +58,7 @@ begin_spec 𝓤 𝓛 𝓜 𝓡 wired B _ gn dn _ =
     sets ! (agg ! (and_then ! (get ! refl) (and_then ! (get ! refl) (no_more !)))) refl (tt, ((tt, tt), ((tt, tt), tt))) $
     use0 𝓛 (‵ ((Token All).own_val (record {}, tt) (token ∷ []))) (token_made All 𝓛) $ fjoin ! $ move ! (1 ∷ []) $ use0 𝓛 (‵ ((Token unit).own_val (record {}, tt) (token ∷ []))) (token_made unit 𝓛) $ fjoin ! $ nothing ! $ move ! (2 ∷ 1 ∷ 0 ∷ []) $ fjoin3 ! $
     let v : Val = vstruct (vcons token (vcons token vnil)) in let Rs : List RattleType = St ∷ Hand.the_row ∷ [] in
-    let s : St.Denot = record { marker = record {}; names = n.0 ∷ n.1 ∷ kind; shown = [] } in let p : Hand.the_row.Denot = record { marker = record {}; tallies = n.0; copy = n.1; kind = kind; held = zeros 0 rows; log = [] } in
+    let s : St.Denot = record { marker = record {}; names = n.0 ∷ n.1 ∷ kind; shown = [] } in let p : Hand.the_row.Denot = record { marker = record {}; counters = n.0; copy = n.1; kind = kind; held = zeros 0 rows; log = [] } in
     feq_i ! (List Val) (v ∷ []) (v ∷ []) refl $ fjoin ! $ fpack ! (Valss Rs) (λ vss. fsep (feq (List Val) (v ∷ []) (vstruct (of_list (vss.0 ++ (vss.1.0 ++ []))) ∷ [])) (owns Rs (s, (p, tt)) vss)) (token ∷ [], (token ∷ [], tt)) $
     nothing ! $ nothing ! $ fjoin ! $
     returns ! (look_at ! 0 refl) $ free_all ! refl $ keep ! (2 ∷ 0 ∷ 1 ∷ []) $ by ! (ends 𝓛 En hs c y v (s, p) (tt, tt) (tt, tt) (fact_i 𝓤 _ (emp 𝓤) (refl, refl, refl, refl, refl)))))))

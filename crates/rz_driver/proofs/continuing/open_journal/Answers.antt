@@ -1,6 +1,6 @@
 use Rattle.std.proofs.Common.{List, sym, ◌∙◌, subst}
 use Rattle.rz_events.specs.Volume.{Volume}
-use Rattle.rz_journal.specs.Opening.{IsRefused}
+use Rattle.rz_journal.specs.Opening.{IsJournalRefused}
 use Rattle.rz_metadata.specs.Reopened.{AllTextsOf, MakesExport}
 use Rattle.rz_metadata.specs.Stands.{export_in}
 use Rattle.rz_nodes.specs.declared.refusal.OpenRefusal.{OpenRefusal}
@@ -27,5 +27,5 @@ returns-in-Err-clause-cause g c =
     let text = g.D.Disk.text in
     let v = c.args.volume.now in
     let disk = c.args.disk in
-    let refused = subst (λ (u : Volume). IsRefused tells u (text disk) c.in-Err.fault) c.in-Ok.ensures c.in-Err.ensures.refused in
+    let refused = subst (λ (u : Volume). IsJournalRefused tells u (text disk) c.in-Err.fault) c.in-Ok.ensures c.in-Err.ensures.refused in
     subst (λ (r : OpenRefusal). IsJournalCause tells meter text v c.args.index disk c.in-Err.disk r) (sym c.refusal_at.ensures) (cause-of tells meter text v disk c.in-Err.disk c.args.index c.in-Err.fault refused c.in-Err.ensures.risen)

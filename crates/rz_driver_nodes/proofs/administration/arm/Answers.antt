@@ -1,7 +1,7 @@
 use Rattle.std.proofs.Common.{Some, refl, ap, arith}
 use Rattle.rz_node_model.specs.States.{NodeState}
 use Rattle.rz_driver_nodes.proofs.MeterLemmas.{arm-goes, armed-own}
-use Rattle.rz_driver_nodes.proofs.OrderPictures.{fewer-keeps}
+use Rattle.rz_driver_nodes.proofs.OrderCoherence.{fewer-keeps}
 use Rattle.rz_driver_nodes.proofs.administration.arm.Goals as goal
 
 pub returns-clause-metered : goal.returns-clause-metered

@@ -4,8 +4,8 @@ use Rattle.rz_events.specs.declared.events.Event.{Event}
 use Rattle.rz_events.specs.declared.events.Event.TheVariants as e
 use Rattle.rz_driver_nodes.proofs.MeterLemmas.{metered-counts, still-err, order-held, order-left, sid-at}
 use Rattle.rz_driver_nodes.proofs.Rows.{at-within}
-use Rattle.rz_driver_nodes.proofs.OrderPictures.{row-keeps, still-row}
-use Rattle.rz_driver_nodes.proofs.PictureLemmas.{on-err}
+use Rattle.rz_driver_nodes.proofs.OrderCoherence.{row-keeps, still-row}
+use Rattle.rz_driver_nodes.proofs.CoherenceLemmas.{on-err}
 use Rattle.rz_driver_nodes.proofs.administration.arm_node.Goals as goal
 
 pub offset_bounds-servers-place : goal.offset_bounds-servers-place
@@ -48,8 +48,8 @@ returns-in_err-make_room-clause-left g c = still-err c.from_residual.result g.D.
 
 -- Beside the log.
 
-pub returns-clause-pictured : goal.returns-clause-pictured
-returns-clause-pictured g c =
+pub returns-clause-coherent : goal.returns-clause-coherent
+returns-clause-coherent g c =
     let row = c.args.servers.now in
     let low = at-within row c.args.sid c.in-Some.place c.in-Some.ensures in
     let s = get_or row c.in-Some.place c.index-servers-place.result in
@@ -59,8 +59,8 @@ returns-clause-pictured g c =
     row-keeps g.D.Disk.image row c.in-Some.place s c.arm.new.server at (c.arm.ensures.images told) c.args.log.now.events c.longer.ensures c.note.new.self.events
     (x ∷ [], h ∙ ap (λ (rest : List Event). x ∷ rest) c.make_room.ensures.same))
 
-pub returns-in_default-clause-spared : goal.returns-in_default-clause-spared
-returns-in_default-clause-spared g c = λ told. still-row g.D.Disk.image c.args.servers.now c.args.log.now.events
+pub returns-in_default-clause-unchanged : goal.returns-in_default-clause-unchanged
+returns-in_default-clause-unchanged g c = λ told. still-row g.D.Disk.image c.args.servers.now c.args.log.now.events
 
-pub returns-in_err-make_room-clause-spared : goal.returns-in_err-make_room-clause-spared
-returns-in_err-make_room-clause-spared g c = on-err c.from_residual.result (λ told. still-row g.D.Disk.image c.args.servers.now c.args.log.now.events)
+pub returns-in_err-make_room-clause-unchanged : goal.returns-in_err-make_room-clause-unchanged
+returns-in_err-make_room-clause-unchanged g c = on-err c.from_residual.result (λ told. still-row g.D.Disk.image c.args.servers.now c.args.log.now.events)

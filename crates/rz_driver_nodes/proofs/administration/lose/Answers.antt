@@ -5,9 +5,9 @@ use Rattle.rz_events.specs.declared.events.Event.{Event}
 use Rattle.rz_events.specs.declared.keys.Actor.TheVariants.{Admin}
 use Rattle.rz_events.specs.declared.nodes.NodeAsk.TheVariants as ask
 use Rattle.rz_play.specs.Lines.{noted}
-use Rattle.rz_driver_nodes.specs.Meters.{GoesOn}
+use Rattle.rz_driver_nodes.specs.Meters.{OneNodeGoesOn}
 use Rattle.rz_driver_nodes.proofs.MeterLemmas.{call-goes}
-use Rattle.rz_driver_nodes.proofs.OrderPictures.{call-keeps, same-disk}
+use Rattle.rz_driver_nodes.proofs.OrderCoherence.{call-keeps, same-disk}
 use Rattle.rz_driver_nodes.proofs.administration.lose.Goals as goal
 
 pub returns-clause-order : goal.returns-clause-order
@@ -27,7 +27,7 @@ returns-clause-metered g c = λ h.
     let node' = c.lose.new.self in
     let after = ap (λ (n : NodeView g.row.D.Denot). n.state) c.lose.ensures.after in
     let same = ap (λ (n : NodeView g.row.D.Denot). meter n.disk) c.lose.ensures.after in
-    subst (λ (o : Option Event). GoesOn meter s.sid s.node node' h (noted o h)) (sym c.node_event.ensures)
+    subst (λ (o : Option Event). OneNodeGoesOn meter s.sid s.node node' h (noted o h)) (sym c.node_event.ensures)
     (call-goes meter c.faults.ensures Admin s.sid 0 s.node.geometry.cells ask.Lose (answer.Lose c.lose.result) s.node node' tt c.lose.ensures.answer after same h)
 
 pub returns-clause-counted : goal.returns-clause-counted

@@ -8,8 +8,8 @@ use Rattle.rz_disk.specs.Meter.{Meter, armed}
 use Rattle.rz_cells_slots.specs.Opening.{opening_calls}
 use Rattle.rz_events.specs.declared.nodes.Phase.TheVariants.{Down}
 use Rattle.rz_node.specs.Opens.{Opens, IfStarted, UnlessStarted, IfUnopened}
-use Rattle.rz_play.specs.Lines.{IsStartedAs, IsTold, noted}
-use Rattle.rz_driver_nodes.specs.Meters.{GoesOn}
+use Rattle.rz_play.specs.Lines.{IsStartedAs, IsAnswerInPlay, noted}
+use Rattle.rz_driver_nodes.specs.Meters.{OneNodeGoesOn}
 use Rattle.rz_driver_nodes.proofs.MeterLemmas.{armed-own, armed-there, start-down, start-still, start-lasts}
 use Rattle.std.specs.Prelude.{ℕ, Bool, IsTrue, Option}
 use Rattle.rz_events.specs.declared.keys.Actor.TheVariants.{Admin}
@@ -22,13 +22,13 @@ use Rattle.rz_cells_slots.specs.declared.geometry.Geometry.{Geometry}
 use Rattle.rz_node.specs.View.{NodeView}
 use Rattle.rz_nodes.specs.declared.formatting.Server.{Server}
 use Rattle.rz_driver_nodes.specs.Servers.{IsCalled}
-use Rattle.rz_driver_nodes.specs.Administration.{IsOrder, IsFreeOrder, IsArmed}
+use Rattle.rz_driver_nodes.specs.Administration.{IsOrderAnswered, IsFreeOrder, IsDiskArmed}
 use Rattle.rz_driver_nodes.specs.Images.{KeepsImages}
-use Rattle.rz_driver_nodes.proofs.OrderPictures.{both-keep, call-keeps, crash-keeps, fewer-keeps, starts}
+use Rattle.rz_driver_nodes.proofs.OrderCoherence.{both-keep, call-keeps, crash-keeps, fewer-keeps, starts}
 use Rattle.rz_driver_nodes.proofs.administration.start.Goals as goal
 use Rattle.rz_driver_nodes.proofs.administration.start.Goals.{then-eq, else-eq}
 
-start-told : (a : StartAnswer) → (a ≡ start.NoMemory → ⊥) → IfUnopened a (λ cause. cause ≡ fault.DiskFault) → IsTold (answer.Start a)
+start-told : (a : StartAnswer) → (a ≡ start.NoMemory → ⊥) → IfUnopened a (λ cause. cause ≡ fault.DiskFault) → IsAnswerInPlay (answer.Start a)
 start-told (start.Started took) other fits = tt
 start-told start.NotDown other fits = tt
 start-told start.NoMemory other fits = other refl
@@ -38,14 +38,14 @@ the-start : (a : StartAnswer) → answer.Start a ≡ answer.Start start.NoMemory
 the-start a same = grind (arith, same)
 
 -- a start leaves the node as it is before it starts
-disarmed-first : {D : Type 0} (old mid : Server D) (n : NodeView D) → IsArmed old.pick old mid → n.geometry ≡ mid.node.geometry
+disarmed-first : {D : Type 0} (old mid : Server D) (n : NodeView D) → IsDiskArmed old.pick old mid → n.geometry ≡ mid.node.geometry
     → IsCalled old (record { sid = mid.sid; node = n; pick = mid.pick })
 disarmed-first old mid n first kept = record { sid = first.sid; pick = first.pick_is; geometry = kept ∙ first.geometry }
 
-order-of : {D : Type 0} (old mid : Server D) (n : NodeView D) (given : StartAnswer) (event : Option Event) → IsArmed old.pick old mid → n.geometry ≡ mid.node.geometry
-    → IsNodeAnswer mid.node.geometry.cells mid.node.state ask.Start (answer.Start given) → IsTold (answer.Start given) → n.state ≡ after_answer ask.Start (answer.Start given) mid.node.state
+order-of : {D : Type 0} (old mid : Server D) (n : NodeView D) (given : StartAnswer) (event : Option Event) → IsDiskArmed old.pick old mid → n.geometry ≡ mid.node.geometry
+    → IsNodeAnswer mid.node.geometry.cells mid.node.state ask.Start (answer.Start given) → IsAnswerInPlay (answer.Start given) → n.state ≡ after_answer ask.Start (answer.Start given) mid.node.state
     → event ≡ node_event Admin mid.sid ask.Start (answer.Start given)
-    → IsOrder ask.Start old (record { sid = mid.sid; node = n; pick = mid.pick }) event
+    → IsOrderAnswered ask.Start old (record { sid = mid.sid; node = n; pick = mid.pick }) event
 order-of old mid n given event first kept is told after noted = record {
   given = answer.Start given;
   given_is = subst (λ (s : NodeState). IsNodeAnswer old.node.geometry.cells s ask.Start (answer.Start given)) first.state
@@ -63,7 +63,7 @@ started-as start.NotDown s s' started unstarted = unstarted
 started-as start.NoMemory s s' started unstarted = unstarted
 started-as (start.Unopened cause) s s' started unstarted = unstarted
 
-free-order : {D : Type 0} (old mid : Server D) (n : NodeView D) (given : StartAnswer) (event : Option Event) → IsArmed old.pick old mid → n.geometry ≡ mid.node.geometry
+free-order : {D : Type 0} (old mid : Server D) (n : NodeView D) (given : StartAnswer) (event : Option Event) → IsDiskArmed old.pick old mid → n.geometry ≡ mid.node.geometry
     → IsNodeAnswer mid.node.geometry.cells mid.node.state ask.Start (answer.Start given) → (given ≡ start.NoMemory → ⊥)
     → IsStartedAs (answer.Start given) old.node.state n.state → event ≡ node_event Admin mid.sid ask.Start (answer.Start given)
     → IsFreeOrder old (record { sid = mid.sid; node = n; pick = mid.pick }) event
@@ -92,7 +92,7 @@ returns-in_default g c =
     let new = c.start.new.self in
     let given = c.start.result in
     let calls = opening_calls mid.node.geometry in
-    let first : IsArmed old.pick old mid = elim c.if-eq.branch [
+    let first : IsDiskArmed old.pick old mid = elim c.if-eq.branch [
       | then-eq w ↦ rw w.server-is (record { sid = refl; geometry = w.arm.ensures.geometry ∙ w.crash.ensures.geometry; state = w.arm.ensures.state ∙ w.crash.ensures.state; pick_is = refl })
       | else-eq w ↦ rw w.server-is (record { sid = refl; geometry = refl; state = refl; pick_is = refl })
     ] in
@@ -130,7 +130,7 @@ returns-in_default g c =
             (sym (c.start.ensures.text ∙ ap (λ (s : Server g.row.D.Denot). g.D.Disk.text s.node.disk) w.server-is ∙ w.arm.ensures.text)) w.crash.ensures.by_pick
         | else-eq w ↦ let other : old.node.state.phase ≡ Down → ⊥ = search rules in absurd (other down)
       ];
-      metered = λ h. subst (λ (o : Option Event). GoesOn meter old.sid old.node new h (noted o h)) (sym event_is) (elim c.if-eq.branch [
+      metered = λ h. subst (λ (o : Option Event). OneNodeGoesOn meter old.sid old.node new h (noted o h)) (sym event_is) (elim c.if-eq.branch [
         | then-eq w ↦
             let down : old.node.state.phase ≡ Down = search rules in
             let disarmed : meter mid.node.disk ≡ armed None (meter old.node.disk) = ap (λ (s : Server g.row.D.Denot). meter s.node.disk) w.server-is
@@ -153,7 +153,7 @@ returns-in-NoMemory g c =
     let old = c.args.server.now in
     let mid = c.if-eq.server in
     let new = c.start.new.self in
-    let first : IsArmed old.pick old mid = elim c.if-eq.branch [
+    let first : IsDiskArmed old.pick old mid = elim c.if-eq.branch [
       | then-eq w ↦ rw w.server-is (record { sid = refl; geometry = w.arm.ensures.geometry ∙ w.crash.ensures.geometry; state = w.arm.ensures.state ∙ w.crash.ensures.state; pick_is = refl })
       | else-eq w ↦ rw w.server-is (record { sid = refl; geometry = refl; state = refl; pick_is = refl })
     ] in

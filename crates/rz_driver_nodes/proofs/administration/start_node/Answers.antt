@@ -5,8 +5,8 @@ use Rattle.rz_events.specs.declared.events.Event.{Event}
 use Rattle.rz_play.specs.Lines.{noted}
 use Rattle.rz_driver_nodes.proofs.MeterLemmas.{metered-counts, still-err, order-err, order-held, order-left}
 use Rattle.rz_driver_nodes.proofs.Rows.{at-within}
-use Rattle.rz_driver_nodes.proofs.OrderPictures.{row-keeps, row-spares, still-row}
-use Rattle.rz_driver_nodes.proofs.PictureLemmas.{noted-grows, on-err}
+use Rattle.rz_driver_nodes.proofs.OrderCoherence.{row-keeps, row-unchanged, still-row}
+use Rattle.rz_driver_nodes.proofs.CoherenceLemmas.{noted-grows, on-err}
 use Rattle.rz_driver_nodes.proofs.administration.start_node.Goals as goal
 
 pub offset_bounds-servers-place : goal.offset_bounds-servers-place
@@ -115,8 +115,8 @@ returns-in_err-event-clause-left g c =
 
 -- Beside the log.
 
-pub returns-clause-pictured : goal.returns-clause-pictured
-returns-clause-pictured g c =
+pub returns-clause-coherent : goal.returns-clause-coherent
+returns-clause-coherent g c =
     let row = c.args.servers.now in
     let low = at-within row c.args.sid c.in-Some.place c.in-Some.ensures in
     let s = get_or row c.in-Some.place c.index-servers-place.result in
@@ -126,17 +126,17 @@ returns-clause-pictured g c =
     row-keeps g.D.Disk.image row c.in-Some.place s c.start.new.server at (c.start.ensures.images told) c.args.log.now.events c.longer.ensures c.note.new.log.events
     (noted-grows event c.args.log.now.events c.note.new.log.events (h ∙ ap (noted event) c.make_room.ensures.same)))
 
-pub returns-in_default-clause-spared : goal.returns-in_default-clause-spared
-returns-in_default-clause-spared g c = λ told. still-row g.D.Disk.image c.args.servers.now c.args.log.now.events
+pub returns-in_default-clause-unchanged : goal.returns-in_default-clause-unchanged
+returns-in_default-clause-unchanged g c = λ told. still-row g.D.Disk.image c.args.servers.now c.args.log.now.events
 
-pub returns-in_err-make_room-clause-spared : goal.returns-in_err-make_room-clause-spared
-returns-in_err-make_room-clause-spared g c = on-err c.from_residual.result (λ told. still-row g.D.Disk.image c.args.servers.now c.args.log.now.events)
+pub returns-in_err-make_room-clause-unchanged : goal.returns-in_err-make_room-clause-unchanged
+returns-in_err-make_room-clause-unchanged g c = on-err c.from_residual.result (λ told. still-row g.D.Disk.image c.args.servers.now c.args.log.now.events)
 
-pub returns-in_err-event-clause-spared : goal.returns-in_err-event-clause-spared
-returns-in_err-event-clause-spared g c =
+pub returns-in_err-event-clause-unchanged : goal.returns-in_err-event-clause-unchanged
+returns-in_err-event-clause-unchanged g c =
     let row = c.args.servers.now in
     let low = at-within row c.args.sid c.in-Some.place c.in-Some.ensures in
     let s = get_or row c.in-Some.place c.index-servers-place.result in
     let at = slice_get-get_or row c.in-Some.place c.index-servers-place.result low in
     on-err c.from_residual-in_err-event.result (λ told.
-    row-spares g.D.Disk.image row c.in-Some.place s c.start.new.server at (c.start.ensures.images told) c.args.log.now.events c.start.ensures.called.sid c.in_err-event.ensures.same)
+    row-unchanged g.D.Disk.image row c.in-Some.place s c.start.new.server at (c.start.ensures.images told) c.args.log.now.events c.start.ensures.called.sid c.in_err-event.ensures.same)

@@ -3,8 +3,8 @@ use Rattle.rz_cells_slots.specs.Opening.{opening_calls}
 use Rattle.rz_node_model.specs.NodeEvents.{node_event}
 use Rattle.rz_driver_nodes.proofs.Fits.{told-so}
 use Rattle.rz_driver_nodes.proofs.MeterLemmas.{call-goes, call-lasts, noted-goes}
-use Rattle.rz_driver_nodes.proofs.MessagePictures.{answers-to, eventless, fits-always, keeps-through, not-called}
-use Rattle.rz_driver_nodes.proofs.PictureLemmas.{on-err}
+use Rattle.rz_driver_nodes.proofs.MessageCoherence.{answers-to, eventless, fits-always, keeps-through, not-called}
+use Rattle.rz_driver_nodes.proofs.CoherenceLemmas.{on-err}
 use Rattle.rz_driver_nodes.proofs.messages.through.Goals as goal
 
 pub tell-requires-clause-answers : goal.tell-requires-clause-answers
@@ -56,29 +56,29 @@ returns-in_default-clause-counted g c =
 
 -- Beside the log.
 
-pub returns-clause-pictured : goal.returns-clause-pictured
-returns-clause-pictured g c =
+pub returns-clause-coherent : goal.returns-clause-coherent
+returns-clause-coherent g c =
     let s = c.in_ok-answer.ensures in
     let h = c.args.log.now.events in
     let n : c.note.new.self.events ≡ c.in-Some.event ∷ h = c.note.ensures.noted in (λ told.
     keeps-through g.D.Disk.text g.D.Disk.image (c.heard.ensures told) c.args.by c.args.number c.args.machine.now c.args.ask c.in_ok-answer.answer c.args.node.now c.serve.new.node c.serve.new.bins h
     (s.message told c.args.number c.requires.asked) c.serve.ensures.geometry s.served.after c.in-Some.event (sym c.node_event.ensures ∙ c.in-Some.is) c.tell.new.machine c.tell.ensures c.note.new.self.events n)
 
-pub returns-then-not-is_fetch_of-clause-spared : goal.returns-then-not-is_fetch_of-clause-spared
-returns-then-not-is_fetch_of-clause-spared g c = λ told.
+pub returns-then-not-is_fetch_of-clause-unchanged : goal.returns-then-not-is_fetch_of-clause-unchanged
+returns-then-not-is_fetch_of-clause-unchanged g c = λ told.
     let s = c.in_ok-answer.ensures in
     fits-always g.D.Disk.text g.D.Disk.image (c.heard.ensures told) c.args.by c.args.number c.args.machine.now c.args.ask c.in_ok-answer.answer c.args.node.now c.serve.new.node c.serve.new.bins c.args.log.now.events
     (s.message told c.args.number c.requires.asked) c.serve.ensures.geometry s.served.after c.args.layout c.requires.machine
     (λ fits. let never : false ≡ true = sym c.if-not-is_fetch_of.true ∙ c.is_fetch_of.ensures.1 fits in cc)
 
-pub returns-in_default-clause-spared : goal.returns-in_default-clause-spared
-returns-in_default-clause-spared g c = λ told.
+pub returns-in_default-clause-unchanged : goal.returns-in_default-clause-unchanged
+returns-in_default-clause-unchanged g c = λ told.
     let s = c.in_ok-answer.ensures in
     eventless g.D.Disk.text g.D.Disk.image (c.heard.ensures told) c.args.by c.args.number c.args.machine.now c.args.ask c.in_ok-answer.answer c.args.node.now c.serve.new.node c.serve.new.bins c.args.log.now.events
     (s.message told c.args.number c.requires.asked) c.serve.ensures.geometry s.served.after s.actor s.served.given_is (sym c.node_event.ensures ∙ c.in_default.is)
 
-pub returns-in_err-answer-clause-spared : goal.returns-in_err-answer-clause-spared
-returns-in_err-answer-clause-spared g c = on-err c.from_residual.result (λ told. not-called g.D.Disk.image c.args.by c.args.number c.args.machine.now c.args.node.now c.serve.new.node c.args.log.now.events c.in_err-answer.ensures.same)
+pub returns-in_err-answer-clause-unchanged : goal.returns-in_err-answer-clause-unchanged
+returns-in_err-answer-clause-unchanged g c = on-err c.from_residual.result (λ told. not-called g.D.Disk.image c.args.by c.args.number c.args.machine.now c.args.node.now c.serve.new.node c.args.log.now.events c.in_err-answer.ensures.same)
 
-pub returns-then-not-is_placed-clause-spared : goal.returns-then-not-is_placed-clause-spared
-returns-then-not-is_placed-clause-spared g c = λ told. not-called g.D.Disk.image c.args.by c.args.number c.args.machine.now c.args.node.now c.args.node.now c.args.log.now.events refl
+pub returns-then-not-is_placed-clause-unchanged : goal.returns-then-not-is_placed-clause-unchanged
+returns-then-not-is_placed-clause-unchanged g c = λ told. not-called g.D.Disk.image c.args.by c.args.number c.args.machine.now c.args.node.now c.args.node.now c.args.log.now.events refl

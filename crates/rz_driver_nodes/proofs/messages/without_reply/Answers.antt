@@ -6,8 +6,8 @@ use Rattle.rz_node_model.specs.NodeEvents.{node_event}
 use Rattle.rz_driver_nodes.proofs.MeterLemmas.{call-goes, call-lasts, missed-goes}
 use Rattle.rz_operation_model.specs.Ask.{ask_of}
 use Rattle.rz_driver_nodes.proofs.Asks.{may-miss}
-use Rattle.rz_driver_nodes.proofs.MessagePictures.{eventless, keeps-lost, not-called}
-use Rattle.rz_driver_nodes.proofs.PictureLemmas.{on-err}
+use Rattle.rz_driver_nodes.proofs.MessageCoherence.{eventless, keeps-lost, not-called}
+use Rattle.rz_driver_nodes.proofs.CoherenceLemmas.{on-err}
 use Rattle.rz_driver_nodes.proofs.messages.without_reply.Goals as goal
 
 pub tell_missed-requires : goal.tell_missed-requires
@@ -30,8 +30,8 @@ returns-clause-counted g c =
 
 -- Beside the log.
 
-pub returns-clause-pictured : goal.returns-clause-pictured
-returns-clause-pictured g c =
+pub returns-clause-coherent : goal.returns-clause-coherent
+returns-clause-coherent g c =
     let s = c.in_ok-answer.ensures in
     let h = c.args.log.now.events in
     let n : c.note-2.new.self.events ≡ e.Missed c.args.by c.args.number true ∷ c.in-Some.event ∷ h = c.note-2.ensures.noted ∙ ap (λ (k : List Event). e.Missed c.args.by c.args.number true ∷ k) c.note.ensures.noted in (λ told.
@@ -39,11 +39,11 @@ returns-clause-pictured g c =
     (s.message told c.args.number c.requires.asked) c.serve.ensures.geometry s.served.after c.told.ensures c.requires.asked c.requires.lossy c.in-Some.event (sym c.node_event.ensures ∙ c.in-Some.is) c.tell_missed.new.self c.tell_missed.ensures
     c.note-2.new.self.events n)
 
-pub returns-in_default-clause-spared : goal.returns-in_default-clause-spared
-returns-in_default-clause-spared g c = λ told.
+pub returns-in_default-clause-unchanged : goal.returns-in_default-clause-unchanged
+returns-in_default-clause-unchanged g c = λ told.
     let s = c.in_ok-answer.ensures in
     eventless g.D.Disk.text g.D.Disk.image (c.heard.ensures told) c.args.by c.args.number c.args.machine.now c.args.ask c.in_ok-answer.answer c.args.node.now c.serve.new.node c.serve.new.bins c.args.log.now.events
     (s.message told c.args.number c.requires.asked) c.serve.ensures.geometry s.served.after s.actor s.served.given_is (sym c.node_event.ensures ∙ c.in_default.is)
 
-pub returns-in_err-answer-clause-spared : goal.returns-in_err-answer-clause-spared
-returns-in_err-answer-clause-spared g c = on-err c.from_residual.result (λ told. not-called g.D.Disk.image c.args.by c.args.number c.args.machine.now c.args.node.now c.serve.new.node c.args.log.now.events c.in_err-answer.ensures.same)
+pub returns-in_err-answer-clause-unchanged : goal.returns-in_err-answer-clause-unchanged
+returns-in_err-answer-clause-unchanged g c = on-err c.from_residual.result (λ told. not-called g.D.Disk.image c.args.by c.args.number c.args.machine.now c.args.node.now c.serve.new.node c.args.log.now.events c.in_err-answer.ensures.same)

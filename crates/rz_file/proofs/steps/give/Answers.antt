@@ -4,7 +4,7 @@ use Rattle.rz_batch.specs.Batch.{batch_of}
 use Rattle.rz_operation_model.specs.Ranges.{cut}
 use Rattle.rz_file.specs.Ranges.{from_first_block}
 use Rattle.rz_file.specs.declared.span.Aim.{Aim}
-use Rattle.rz_file.specs.Inside.{IsPlaced, IsBatched, IsAimed}
+use Rattle.rz_file.specs.Inside.{IsBatchText, IsBatched, IsAimed}
 use Rattle.rz_file.proofs.Places.{placed-within, placed-same}
 use Rattle.rz_file.proofs.steps.give.Goals as goal
 
@@ -23,7 +23,7 @@ returns-clause-inside c =
     let text : c.push_cut.new.bytes.items ≡ cut range.done (block_bytes_of layout) bytes =
     c.push_cut.ensures.items ∙ ap (λ (l : List ℕ). l ++ cut range.done c.block_bytes.result c.deref.result.now) c.clear.ensures.items
     ∙ ap (λ (n : ℕ). cut range.done n c.deref.result.now) c.block_bytes.ensures.value ∙ ap (cut range.done (block_bytes_of layout)) c.deref.ensures.value in
-    let placed : IsPlaced layout (record span { text = c.push_cut.new.bytes }) c.place.result = record {
+    let placed : IsBatchText layout (record span { text = c.push_cut.new.bytes }) c.place.result = record {
       within = placed-within layout range.offset range.done c.place.result bytes span.batch some batched c.place.ensures.at ends;
       same = placed-same layout range.offset range.done c.place.result bytes c.push_cut.new.bytes.items c.place.ensures.at ends text;
     } in

@@ -3,7 +3,7 @@ use Rattle.std.proofs.Common.{rules, ◌≡◌, false, true, sym, ◌∙◌, sub
 use Rattle.rz_export_model.specs.Export.{Export}
 use Rattle.rz_events.specs.Borrowed.{call_of}
 use Rattle.rz_journal_text.specs.Spelling.{entry_bytes}
-use Rattle.rz_journal.specs.Kept.{IsReady}
+use Rattle.rz_journal.specs.Kept.{IsJournalReady}
 use Rattle.rz_journal.proofs.Keepings.{answered_so, answered_not, answered_volume, accepted_of, added_images, ready_after}
 use Rattle.rz_journal.proofs.keeping.keep.Goals as goal
 
@@ -14,7 +14,7 @@ returns-then-not-accepts-clause-ready g c =
     let mid = c.make_room.new.entries in
     let shut : c.accepts.result ≡ false = search rules in
     let same = answered_not s u (call_of c.args.call) c.answer_ref-reply.result c.answer_ref-reply.ensures (sym c.accepts.ensures ∙ shut) in
-    subst (λ (x : Export). IsReady g.D.Disk.tells (g.D.Disk.text mid.disk) (g.D.Disk.image mid.disk) mid.half mid.used x) (sym same) c.in_ok-make_room.ensures.ready
+    subst (λ (x : Export). IsJournalReady g.D.Disk.tells (g.D.Disk.text mid.disk) (g.D.Disk.image mid.disk) mid.half mid.used x) (sym same) c.in_ok-make_room.ensures.ready
 
 pub returns-then-not-accepts-clause-volume : goal.returns-then-not-accepts-clause-volume
 returns-then-not-accepts-clause-volume g c = answered_volume c.args.export.now c.answer_ref-reply.new.self (call_of c.args.call) c.answer_ref-reply.result c.answer_ref-reply.ensures

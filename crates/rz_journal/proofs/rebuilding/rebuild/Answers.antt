@@ -2,7 +2,7 @@
 use Rattle.std.proofs.Common.{sym, ◌∙◌, ap, subst}
 use Rattle.rz_events.specs.Volume.{Volume}
 use Rattle.rz_export_model.specs.Export.{Export, new_export}
-use Rattle.rz_journal.specs.Opening.{IsRebuilt, IsStopped}
+use Rattle.rz_journal.specs.Opening.{MakeExport, StopsAtEntry}
 use Rattle.rz_journal.proofs.rebuilding.rebuild.Goals as goal
 
 pub add_all-requires-clause-new : goal.add_all-requires-clause-new
@@ -13,9 +13,9 @@ add_all-requires-clause-new c =
 pub returns-in-Ok-add_all-clause-rebuilt : goal.returns-in-Ok-add_all-clause-rebuilt
 returns-in-Ok-add_all-clause-rebuilt c =
     let same = ap (λ (x : Export). x.volume) c.in-Ok.ensures in
-    subst (λ (v : Volume). IsRebuilt v c.args.half.now c.in-Ok-add_all.used c.add_all.new.self.export) same c.in-Ok-add_all.ensures.rebuilt
+    subst (λ (v : Volume). MakeExport v c.args.half.now c.in-Ok-add_all.used c.add_all.new.self.export) same c.in-Ok-add_all.ensures.rebuilt
 
 pub returns-in-Err-clause-stopped : goal.returns-in-Err-clause-stopped
 returns-in-Err-clause-stopped c =
     let same = ap (λ (x : Export). x.volume) c.in-Ok.ensures in
-    subst (λ (v : Volume). IsStopped v c.args.half.now c.in-Err.fault) same c.in-Err.ensures.stopped
+    subst (λ (v : Volume). StopsAtEntry v c.args.half.now c.in-Err.fault) same c.in-Err.ensures.stopped

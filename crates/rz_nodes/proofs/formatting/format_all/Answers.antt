@@ -8,7 +8,7 @@ use Rattle.rz_events.specs.Volume.{IsNode}
 use Rattle.std.proofs.lemmas.List.{reverse-reverse}
 use Rattle.rz_cells_slots.specs.declared.formatting.FormatFault.{FormatFault}
 use Rattle.rz_cells_slots.specs.declared.formatting.FormatFault.TheVariants as format
-use Rattle.rz_nodes.specs.Formatted.{IsBack, IsCause, IsFormatted, fault_at}
+use Rattle.rz_nodes.specs.Formatted.{IsBack, IsCause, IsNodeFormatted, fault_at}
 use Rattle.rz_nodes.proofs.Rowwise.{all-get, zip-length, zip-more}
 use Rattle.rz_nodes.proofs.FormatLemmas.{pushed, next-taken, disk-at, all-back, failed-at, all-new}
 use Rattle.rz_nodes.proofs.FormatLemmas.{new-back, same-back, untouched}
@@ -32,7 +32,7 @@ loop-index-init g c =
     let fits = c.args.disks.ok.1 in
     let more = c.in-Ok.ensures.capacity in
     record {
-      made = ([], ap (zip c.args.nodes.now) (sym turned), refl, subst (AllZip (IsFormatted g.D.Disk.tells g.D.Disk.meter g.D.Disk.text g.D.Disk.image c.args.layout) []) (sym c.in-Ok.ensures.items) tt);
+      made = ([], ap (zip c.args.nodes.now) (sym turned), refl, subst (AllZip (IsNodeFormatted g.D.Disk.tells g.D.Disk.meter g.D.Disk.text g.D.Disk.image c.args.layout) []) (sym c.in-Ok.ensures.items) tt);
       count = omega (arith, same, len, count);
       room = omega (arith, capacity, len, count, fits);
       more = omega (arith, more);
@@ -44,7 +44,7 @@ format_one-requires g c = record { node = all-get IsNode c.args.nodes.now c.loop
 pub hand_back-requires-in-Err : goal.hand_back-requires-in-Err
 hand_back-requires-in-Err g c =
     let made = c.loop-index.invariant.made in
-    let same = zip-length (IsFormatted g.D.Disk.tells g.D.Disk.meter g.D.Disk.text g.D.Disk.image c.args.layout) made.0 c.loop-index.servers.items made.3 in
+    let same = zip-length (IsNodeFormatted g.D.Disk.tells g.D.Disk.meter g.D.Disk.text g.D.Disk.image c.args.layout) made.0 c.loop-index.servers.items made.3 in
     let len : vec_len c.loop-index.servers ≡ length c.loop-index.servers.items = c.loop-index.servers.ok.0 in
     let count : length made.0 ≡ c.loop-index.index = made.2 in
     let room = c.loop-index.invariant.room in
@@ -64,7 +64,7 @@ returns-in-Err-clause-back g c =
     let same_room = c.pop.ensures.capacity in
     let pop_len : vec_len c.pop.new.self ≡ length c.pop.new.self.items = c.pop.new.self.ok.0 in
     let taken = next-taken c.args.nodes.now c.loop-index.index _ c.loop-index.home.items c.pop.new.self.items c.in-Some.disk _ made.0 made.1 c.in-Some.ensures.items c.loop-index-test.true in
-    all-back (IsFormatted g.D.Disk.tells g.D.Disk.meter g.D.Disk.text g.D.Disk.image c.args.layout) (IsBack g.D.Disk.tells g.D.Disk.meter g.D.Disk.image c.args.layout) (λ (s : Server (UnderFuse g.row.D.Denot)). s.node.disk.disk) (new-back g.D.Disk.tells g.D.Disk.meter g.D.Disk.text g.D.Disk.image c.args.layout) (same-back g.D.Disk.tells g.D.Disk.meter g.D.Disk.image c.args.layout)
+    all-back (IsNodeFormatted g.D.Disk.tells g.D.Disk.meter g.D.Disk.text g.D.Disk.image c.args.layout) (IsBack g.D.Disk.tells g.D.Disk.meter g.D.Disk.image c.args.layout) (λ (s : Server (UnderFuse g.row.D.Denot)). s.node.disk.disk) (new-back g.D.Disk.tells g.D.Disk.meter g.D.Disk.text g.D.Disk.image c.args.layout) (same-back g.D.Disk.tells g.D.Disk.meter g.D.Disk.image c.args.layout)
     c.args.nodes.now c.loop-index.index _ c.loop-index.servers.items c.pop.new.self.items c.push-back.new.self.items c.hand_back-in-Err.result.items c.in-Some.disk c.in-Err.disk _ made.0 taken
     (pushed c.pop.new.self.items c.push-back.new.self.items c.in-Err.disk _ c.push-back.ensures.items (c.push-back.ensures.succeeds (omega (arith, room, more, popped, same_room))))
     c.hand_back-in-Err.ensures (omega (arith, more, popped, pop_len)) made.3 c.in-Err.ensures.back
@@ -81,7 +81,7 @@ returns-in-Err-clause-cause g c =
     subst (IsCause g.D.Disk.meter c.args.disks.items c.hand_back-in-Err.result.items) (sym c.fault_at.ensures)
     (cause-of g.D.Disk.meter c.args.disks.items c.hand_back-in-Err.result.items c.in-Err.fault c.loop-index.index c.in-Some.disk c.in-Err.disk
     (disk-at c.args.nodes.now c.args.disks.items made.0 _ _ c.in-Some.disk c.loop-index.index taken made.2)
-    (failed-at (IsFormatted g.D.Disk.tells g.D.Disk.meter g.D.Disk.text g.D.Disk.image c.args.layout) (IsBack g.D.Disk.tells g.D.Disk.meter g.D.Disk.image c.args.layout) (λ (s : Server (UnderFuse g.row.D.Denot)). s.node.disk.disk) (new-back g.D.Disk.tells g.D.Disk.meter g.D.Disk.text g.D.Disk.image c.args.layout) (same-back g.D.Disk.tells g.D.Disk.meter g.D.Disk.image c.args.layout)
+    (failed-at (IsNodeFormatted g.D.Disk.tells g.D.Disk.meter g.D.Disk.text g.D.Disk.image c.args.layout) (IsBack g.D.Disk.tells g.D.Disk.meter g.D.Disk.image c.args.layout) (λ (s : Server (UnderFuse g.row.D.Denot)). s.node.disk.disk) (new-back g.D.Disk.tells g.D.Disk.meter g.D.Disk.text g.D.Disk.image c.args.layout) (same-back g.D.Disk.tells g.D.Disk.meter g.D.Disk.image c.args.layout)
     c.loop-index.servers.items c.pop.new.self.items c.push-back.new.self.items c.hand_back-in-Err.result.items c.in-Err.disk made.0 c.loop-index.index
     (pushed c.pop.new.self.items c.push-back.new.self.items c.in-Err.disk _ c.push-back.ensures.items full)
     c.hand_back-in-Err.ensures made.3 made.2)
@@ -95,7 +95,7 @@ loop-index-preserved g c =
     let more = c.loop-index.invariant.more in
     let popped = c.in-Some.ensures.cases in
     let same_room = c.pop.ensures.capacity in
-    let same = zip-length (IsFormatted g.D.Disk.tells g.D.Disk.meter g.D.Disk.text g.D.Disk.image c.args.layout) made.0 c.loop-index.servers.items made.3 in
+    let same = zip-length (IsNodeFormatted g.D.Disk.tells g.D.Disk.meter g.D.Disk.text g.D.Disk.image c.args.layout) made.0 c.loop-index.servers.items made.3 in
     let len : vec_len c.loop-index.servers ≡ length c.loop-index.servers.items = c.loop-index.servers.ok.0 in
     let long : length made.0 ≡ c.loop-index.index = made.2 in
     let low = c.loop-index-test.true in
@@ -107,8 +107,8 @@ loop-index-preserved g c =
         made.0 ++ (_, c.in-Some.disk) ∷ [],
         taken ∙ sym (append_assoc made.0 ((_, c.in-Some.disk) ∷ []) _),
         length-append made.0 ((_, c.in-Some.disk) ∷ []) ∙ ap (λ (n : ℕ). n + 1) long,
-        subst (AllZip (IsFormatted g.D.Disk.tells g.D.Disk.meter g.D.Disk.text g.D.Disk.image c.args.layout) (made.0 ++ (_, c.in-Some.disk) ∷ [])) (sym items)
-            (zip-more (IsFormatted g.D.Disk.tells g.D.Disk.meter g.D.Disk.text g.D.Disk.image c.args.layout) made.0 c.loop-index.servers.items (_, c.in-Some.disk) c.in-Ok-format_one.server made.3 c.in-Ok-format_one.ensures.made),
+        subst (AllZip (IsNodeFormatted g.D.Disk.tells g.D.Disk.meter g.D.Disk.text g.D.Disk.image c.args.layout) (made.0 ++ (_, c.in-Some.disk) ∷ [])) (sym items)
+            (zip-more (IsNodeFormatted g.D.Disk.tells g.D.Disk.meter g.D.Disk.text g.D.Disk.image c.args.layout) made.0 c.loop-index.servers.items (_, c.in-Some.disk) c.in-Ok-format_one.server made.3 c.in-Ok-format_one.ensures.made),
       );
       count = omega (arith, count, popped);
       room = omega (arith, room, same_room);
@@ -118,13 +118,13 @@ loop-index-preserved g c =
 pub returns-clause-made : goal.returns-clause-made
 returns-clause-made g c =
     let made = c.loop-index.invariant.made in
-    all-new (IsFormatted g.D.Disk.tells g.D.Disk.meter g.D.Disk.text g.D.Disk.image c.args.layout) (IsBack g.D.Disk.tells g.D.Disk.meter g.D.Disk.image c.args.layout) (λ (s : Server (UnderFuse g.row.D.Denot)). s.node.disk.disk) (new-back g.D.Disk.tells g.D.Disk.meter g.D.Disk.text g.D.Disk.image c.args.layout) (same-back g.D.Disk.tells g.D.Disk.meter g.D.Disk.image c.args.layout)
+    all-new (IsNodeFormatted g.D.Disk.tells g.D.Disk.meter g.D.Disk.text g.D.Disk.image c.args.layout) (IsBack g.D.Disk.tells g.D.Disk.meter g.D.Disk.image c.args.layout) (λ (s : Server (UnderFuse g.row.D.Denot)). s.node.disk.disk) (new-back g.D.Disk.tells g.D.Disk.meter g.D.Disk.text g.D.Disk.image c.args.layout) (same-back g.D.Disk.tells g.D.Disk.meter g.D.Disk.image c.args.layout)
     c.args.nodes.now c.loop-index.index c.loop-index.servers.items c.loop-index.home.items _ made.0 made.1 c.loop-index-test.false made.3
 
 pub returns-clause-room : goal.returns-clause-room
 returns-clause-room g c =
     let made = c.loop-index.invariant.made in
-    let same = zip-length (IsFormatted g.D.Disk.tells g.D.Disk.meter g.D.Disk.text g.D.Disk.image c.args.layout) made.0 c.loop-index.servers.items made.3 in
+    let same = zip-length (IsNodeFormatted g.D.Disk.tells g.D.Disk.meter g.D.Disk.text g.D.Disk.image c.args.layout) made.0 c.loop-index.servers.items made.3 in
     let len : vec_len c.loop-index.servers ≡ length c.loop-index.servers.items = c.loop-index.servers.ok.0 in
     let count : length made.0 ≡ c.loop-index.index = made.2 in
     let room = c.loop-index.invariant.room in

@@ -7,7 +7,7 @@ use Rattle.std.proofs.lemmas.List.{reverse-reverse}
 use Rattle.rz_nodes.specs.declared.formatting.Server.{Server}
 use Rattle.rz_nodes.proofs.Rowwise.{all-get, zip-length, zip-more}
 use Rattle.rz_nodes.proofs.FormatLemmas.{pushed, next-taken, disk-at, all-back, failed-at, all-new}
-use Rattle.rz_nodes.specs.Opened.{IsCause, IsKept, IsOpened}
+use Rattle.rz_nodes.specs.Opened.{IsCause, IsDiskBack, IsNodeOpened}
 use Rattle.rz_nodes.proofs.OpenLemmas.{zip-count, zip-at, there-at, zip-second, cause-of, opened-kept, first-at, same-kept, untouched}
 use Rattle.rz_nodes.proofs.opening.open_all.Goals as goal
 
@@ -24,7 +24,7 @@ loop-index-init g c =
     let fits = c.args.disks.ok.1 in
     let more = c.in-Ok.ensures.capacity in
     record {
-      made = ([], ap (zip (zip c.args.nodes.now c.args.losses.now)) (sym turned), refl, subst (AllZip (IsOpened g.D.Disk.tells g.D.Disk.meter g.D.Disk.text g.D.Disk.image c.args.layout) []) (sym c.in-Ok.ensures.items) tt);
+      made = ([], ap (zip (zip c.args.nodes.now c.args.losses.now)) (sym turned), refl, subst (AllZip (IsNodeOpened g.D.Disk.tells g.D.Disk.meter g.D.Disk.text g.D.Disk.image c.args.layout) []) (sym c.in-Ok.ensures.items) tt);
       count = omega (arith, same, len, count);
       room = omega (arith, capacity, len, count, fits);
       more = omega (arith, more);
@@ -36,7 +36,7 @@ open_one-requires g c = record { node = all-get IsNode c.args.nodes.now c.loop-i
 pub hand_back-requires-in-Err : goal.hand_back-requires-in-Err
 hand_back-requires-in-Err g c =
     let made = c.loop-index.invariant.made in
-    let same = zip-length (IsOpened g.D.Disk.tells g.D.Disk.meter g.D.Disk.text g.D.Disk.image c.args.layout) made.0 c.loop-index.servers.items made.3 in
+    let same = zip-length (IsNodeOpened g.D.Disk.tells g.D.Disk.meter g.D.Disk.text g.D.Disk.image c.args.layout) made.0 c.loop-index.servers.items made.3 in
     let len : vec_len c.loop-index.servers ≡ length c.loop-index.servers.items = c.loop-index.servers.ok.0 in
     let count : length made.0 ≡ c.loop-index.index = made.2 in
     let room = c.loop-index.invariant.room in
@@ -58,8 +58,8 @@ returns-in-Err-clause-back g c =
     let low = c.loop-index-test.true in
     let both = zip-count c.args.nodes.now c.args.losses.now c.requires.losses in
     let taken = next-taken (zip c.args.nodes.now c.args.losses.now) c.loop-index.index (record { sid = 0; cells = 0 }, 0) c.loop-index.home.items c.pop.new.self.items c.in-Some.disk _ made.0 made.1 c.in-Some.ensures.items (omega (arith, low, both)) in
-    zip-second (IsKept g.D.Disk.meter g.D.Disk.text g.D.Disk.image) (zip c.args.nodes.now c.args.losses.now) c.args.disks.items c.hand_back-in-Err.result.items (c.requires.count ∙ sym both)
-    (all-back (IsOpened g.D.Disk.tells g.D.Disk.meter g.D.Disk.text g.D.Disk.image c.args.layout) (λ (p : (NodeSpec × ℕ) × g.row.D.Denot). IsKept g.D.Disk.meter g.D.Disk.text g.D.Disk.image p.1) (λ (s : Server (UnderFuse g.row.D.Denot)). s.node.disk.disk)
+    zip-second (IsDiskBack g.D.Disk.meter g.D.Disk.text g.D.Disk.image) (zip c.args.nodes.now c.args.losses.now) c.args.disks.items c.hand_back-in-Err.result.items (c.requires.count ∙ sym both)
+    (all-back (IsNodeOpened g.D.Disk.tells g.D.Disk.meter g.D.Disk.text g.D.Disk.image c.args.layout) (λ (p : (NodeSpec × ℕ) × g.row.D.Denot). IsDiskBack g.D.Disk.meter g.D.Disk.text g.D.Disk.image p.1) (λ (s : Server (UnderFuse g.row.D.Denot)). s.node.disk.disk)
     (opened-kept g.D.Disk.tells g.D.Disk.meter g.D.Disk.text g.D.Disk.image c.args.layout) (λ n d. same-kept g.D.Disk.meter g.D.Disk.text g.D.Disk.image d)
     (zip c.args.nodes.now c.args.losses.now) c.loop-index.index _ c.loop-index.servers.items c.pop.new.self.items c.push-back.new.self.items c.hand_back-in-Err.result.items c.in-Some.disk c.in-Err.disk _ made.0 taken
     (pushed c.pop.new.self.items c.push-back.new.self.items c.in-Err.disk _ c.push-back.ensures.items (c.push-back.ensures.succeeds (omega (arith, room, more, popped, same_room))))
@@ -76,7 +76,7 @@ returns-in-Err-clause-cause g c =
     let both = zip-count c.args.nodes.now c.args.losses.now c.requires.losses in
     let full = c.push-back.ensures.succeeds (omega (arith, room, more, popped, same_room)) in
     let items = pushed c.pop.new.self.items c.push-back.new.self.items c.in-Err.disk _ c.push-back.ensures.items full in
-    let same = zip-length (IsOpened g.D.Disk.tells g.D.Disk.meter g.D.Disk.text g.D.Disk.image c.args.layout) made.0 c.loop-index.servers.items made.3 in
+    let same = zip-length (IsNodeOpened g.D.Disk.tells g.D.Disk.meter g.D.Disk.text g.D.Disk.image c.args.layout) made.0 c.loop-index.servers.items made.3 in
     let taken = next-taken (zip c.args.nodes.now c.args.losses.now) c.loop-index.index (record { sid = 0; cells = 0 }, 0) c.loop-index.home.items c.pop.new.self.items c.in-Some.disk _ made.0 made.1 c.in-Some.ensures.items (omega (arith, low, both)) in
     subst (IsCause g.D.Disk.tells g.D.Disk.meter g.D.Disk.text g.D.Disk.image c.args.layout c.args.nodes.now c.args.losses.now c.args.disks.items c.hand_back-in-Err.result.items) (sym c.refusal_at.ensures)
     (cause-of g.D.Disk.tells g.D.Disk.meter g.D.Disk.text g.D.Disk.image c.args.layout c.args.nodes.now c.args.losses.now c.args.disks.items c.hand_back-in-Err.result.items c.loop-index.index c.in-Err.fault (record {
@@ -85,7 +85,7 @@ returns-in-Err-clause-cause g c =
       new = c.in-Err.disk;
       there = there-at c.args.nodes.now c.loop-index.index (record { sid = 0; cells = 0 }) low;
       was = disk-at (zip c.args.nodes.now c.args.losses.now) c.args.disks.items made.0 _ _ c.in-Some.disk c.loop-index.index taken made.2;
-      is = failed-at (IsOpened g.D.Disk.tells g.D.Disk.meter g.D.Disk.text g.D.Disk.image c.args.layout) (λ (p : (NodeSpec × ℕ) × g.row.D.Denot). IsKept g.D.Disk.meter g.D.Disk.text g.D.Disk.image p.1) (λ (s : Server (UnderFuse g.row.D.Denot)). s.node.disk.disk)
+      is = failed-at (IsNodeOpened g.D.Disk.tells g.D.Disk.meter g.D.Disk.text g.D.Disk.image c.args.layout) (λ (p : (NodeSpec × ℕ) × g.row.D.Denot). IsDiskBack g.D.Disk.meter g.D.Disk.text g.D.Disk.image p.1) (λ (s : Server (UnderFuse g.row.D.Denot)). s.node.disk.disk)
           (opened-kept g.D.Disk.tells g.D.Disk.meter g.D.Disk.text g.D.Disk.image c.args.layout) (λ n d. same-kept g.D.Disk.meter g.D.Disk.text g.D.Disk.image d)
           c.loop-index.servers.items c.pop.new.self.items c.push-back.new.self.items c.hand_back-in-Err.result.items c.in-Err.disk made.0 c.loop-index.index items c.hand_back-in-Err.ensures made.3 made.2;
       fault_of = c.in-Err.ensures.fault;
@@ -101,7 +101,7 @@ loop-index-preserved g c =
     let more = c.loop-index.invariant.more in
     let popped = c.in-Some.ensures.cases in
     let same_room = c.pop.ensures.capacity in
-    let same = zip-length (IsOpened g.D.Disk.tells g.D.Disk.meter g.D.Disk.text g.D.Disk.image c.args.layout) made.0 c.loop-index.servers.items made.3 in
+    let same = zip-length (IsNodeOpened g.D.Disk.tells g.D.Disk.meter g.D.Disk.text g.D.Disk.image c.args.layout) made.0 c.loop-index.servers.items made.3 in
     let len : vec_len c.loop-index.servers ≡ length c.loop-index.servers.items = c.loop-index.servers.ok.0 in
     let long : length made.0 ≡ c.loop-index.index = made.2 in
     let low = c.loop-index-test.true in
@@ -116,8 +116,8 @@ loop-index-preserved g c =
         made.0 ++ (_, c.in-Some.disk) ∷ [],
         taken' ∙ sym (append_assoc made.0 ((_, c.in-Some.disk) ∷ []) _),
         length-append made.0 ((_, c.in-Some.disk) ∷ []) ∙ ap (λ (n : ℕ). n + 1) long,
-        subst (AllZip (IsOpened g.D.Disk.tells g.D.Disk.meter g.D.Disk.text g.D.Disk.image c.args.layout) (made.0 ++ (_, c.in-Some.disk) ∷ [])) (sym items)
-            (zip-more (IsOpened g.D.Disk.tells g.D.Disk.meter g.D.Disk.text g.D.Disk.image c.args.layout) made.0 c.loop-index.servers.items (_, c.in-Some.disk) c.in-Ok-open_one.server made.3 c.in-Ok-open_one.ensures.made),
+        subst (AllZip (IsNodeOpened g.D.Disk.tells g.D.Disk.meter g.D.Disk.text g.D.Disk.image c.args.layout) (made.0 ++ (_, c.in-Some.disk) ∷ [])) (sym items)
+            (zip-more (IsNodeOpened g.D.Disk.tells g.D.Disk.meter g.D.Disk.text g.D.Disk.image c.args.layout) made.0 c.loop-index.servers.items (_, c.in-Some.disk) c.in-Ok-open_one.server made.3 c.in-Ok-open_one.ensures.made),
       );
       count = omega (arith, count, popped);
       room = omega (arith, room, same_room);
@@ -129,14 +129,14 @@ returns-clause-made g c =
     let made = c.loop-index.invariant.made in
     let over = c.loop-index-test.false in
     let both = zip-count c.args.nodes.now c.args.losses.now c.requires.losses in
-    all-new (IsOpened g.D.Disk.tells g.D.Disk.meter g.D.Disk.text g.D.Disk.image c.args.layout) (λ (p : (NodeSpec × ℕ) × g.row.D.Denot). IsKept g.D.Disk.meter g.D.Disk.text g.D.Disk.image p.1) (λ (s : Server (UnderFuse g.row.D.Denot)). s.node.disk.disk)
+    all-new (IsNodeOpened g.D.Disk.tells g.D.Disk.meter g.D.Disk.text g.D.Disk.image c.args.layout) (λ (p : (NodeSpec × ℕ) × g.row.D.Denot). IsDiskBack g.D.Disk.meter g.D.Disk.text g.D.Disk.image p.1) (λ (s : Server (UnderFuse g.row.D.Denot)). s.node.disk.disk)
     (opened-kept g.D.Disk.tells g.D.Disk.meter g.D.Disk.text g.D.Disk.image c.args.layout) (λ n d. same-kept g.D.Disk.meter g.D.Disk.text g.D.Disk.image d)
     (zip c.args.nodes.now c.args.losses.now) c.loop-index.index c.loop-index.servers.items c.loop-index.home.items _ made.0 made.1 (omega (arith, over, both)) made.3
 
 pub returns-clause-room : goal.returns-clause-room
 returns-clause-room g c =
     let made = c.loop-index.invariant.made in
-    let same = zip-length (IsOpened g.D.Disk.tells g.D.Disk.meter g.D.Disk.text g.D.Disk.image c.args.layout) made.0 c.loop-index.servers.items made.3 in
+    let same = zip-length (IsNodeOpened g.D.Disk.tells g.D.Disk.meter g.D.Disk.text g.D.Disk.image c.args.layout) made.0 c.loop-index.servers.items made.3 in
     let len : vec_len c.loop-index.servers ≡ length c.loop-index.servers.items = c.loop-index.servers.ok.0 in
     let count : length made.0 ≡ c.loop-index.index = made.2 in
     let room = c.loop-index.invariant.room in

@@ -2,7 +2,7 @@ use Rattle.std.proofs.Common.{Ok, ◌≡◌, take, ◌≤◌, ◌+◌}
 use Rattle.rz_play.specs.Stops.{most_turns}
 use Rattle.rz_player.proofs.Amongs.{IsUpTo}
 use Rattle.rz_player.specs.Behind.{Before, behind}
-use Rattle.rz_player.specs.Ends.{Carries, CountsTurns}
+use Rattle.rz_player.specs.Ends.{StaysTrue, CountsTurns}
 use Rattle.rz_player.proofs.rounds.take_round.Given as goal
 
 abbrev pub invariant-loop-by : goal.invariant-loop-by
@@ -11,7 +11,7 @@ invariant-loop-by g l = record {
   volume : g.S.Stage.volume l.stage ≡ g.S.Stage.volume l.fn.stage;
   journal : g.S.Stage.journaled l.stage ≡ g.S.Stage.journaled l.fn.stage;
   lost : (g.S.Stage.world l.stage).lost + g.L.Link.lost l.fn.link ≤ (g.S.Stage.world l.fn.stage).lost + g.L.Link.lost l.link;
-  held : Carries (g.S.Stage.holds l.fn.stage) (g.S.Stage.holds l.stage);
+  held : StaysTrue (g.S.Stage.holds l.fn.stage) (g.S.Stage.holds l.stage);
   few : (g.S.Stage.world l.stage).turns ≤ most_turns;
   counted : CountsTurns (Ok l.any) (g.S.Stage.world l.fn.stage) (g.S.Stage.world l.stage);
   least : (g.S.Stage.world l.fn.stage).turns ≤ (g.S.Stage.world l.stage).turns;

@@ -6,13 +6,13 @@ use Rattle.rz_disk.specs.UnderFuse.{UnderFuse}
 use Rattle.rz_driver_actors.specs.declared.shared.Shared.{Shared}
 use Rattle.rz_driver.specs.Continued.{AreLeft, IsCauseAgain}
 use Rattle.rz_driver.specs.Endings.{EndsAsRefused, StandsForLog}
-use Rattle.rz_driver.specs.Worlds.{Holds, Leaves, left_behind, tells-known, world_of}
+use Rattle.rz_driver.specs.Worlds.{HoldsBetweenTurns, LeavesAtEnd, left_behind, tells-known, world_of}
 use Rattle.rz_restart_laws.specs.Earlier.{IsEarlier, IsRestarted}
 use Rattle.rz_events.specs.Volume.{Volume, nodes_of}
 use Rattle.rz_events.specs.declared.events.Event.{Event}
 use Rattle.rz_nodes.specs.Formatted.{disks_of}
 use Rattle.rz_metadata.specs.Stands.{disk_of, export_in, is_journaled, refusal_of}
-use Rattle.rz_nodes.specs.Opened.{AreKept}
+use Rattle.rz_nodes.specs.Opened.{AreDisksBack}
 use Rattle.rz_script.specs.declared.line.Line.{Line}
 use Rattle.rz_driver_nodes.specs.Meters.{faults_at}
 use Rattle.rz_driver_nodes.specs.Servers.{state_in}
@@ -32,7 +32,7 @@ use Rattle.rz_report.specs.Scrubs.{BetweenTurns}
 use Rattle.rz_report.specs.Telling.{IsPlayAgain, IsPlayOf, TellsOwn}
 use Rattle.rz_report.proofs.Anew.{played_on, told_own}
 use Rattle.rz_request.specs.declared.wishes.Wish.TheVariants.{Again, Scrub}
-use Rattle.rz_replay.specs.Disks.{AreFaultsTold, AreImagesTold, AreLocksKept, AreUsedAgain, IsJournalLeft, IsPlayAfter, LeavesNext, MayFollow, faulted}
+use Rattle.rz_replay.specs.Disks.{AreFaultsTold, AreImagesTold, AreLocksKept, AreUsedAgain, IsJournalLeft, IsPlayAfter, LeavesNext, MayBeResumed, faulted}
 use Rattle.rz_replay.proofs.Continuing.{any_told, not-reopened, own_as}
 use Rattle.rz_replay.proofs.Journals.{again-back, again-end, at-last, between-on, has-disk, journal-left, may-follow, next-on, split-last, whole-end}
 use Rattle.rz_replay.proofs.replaying.play_again.Given as given
@@ -97,29 +97,29 @@ module _ (g : given.Over) (c : goal.After-drop-disks g) where
 
   -- over disks that tell their texts the driver holds with each log that the disks were left with
   went_on : IsTrue g.D.Disk.tells → (h : List Event) → IsEarlier volume h → AreLeft g.D.Disk.image volume h c.args.disks.now.items
-      → (old : List Event) × IsRestarted volume h old × Holds c.in-Ok.driver (left_behind counts old)
+      → (old : List Event) × IsRestarted volume h old × HoldsBetweenTurns c.in-Ok.driver (left_behind counts old)
   went_on =
       let K : Volume → List g.row.D.Denot → Type 0 = λ v xs. IsTrue g.D.Disk.tells → (h : List Event) → IsEarlier v h → AreLeft g.D.Disk.image v h xs
-      → (old : List Event) × IsRestarted v h old × Holds c.in-Ok.driver (left_behind (faults_at g.D.Disk.meter xs) old) in
+      → (old : List Event) × IsRestarted v h old × HoldsBetweenTurns c.in-Ok.driver (left_behind (faults_at g.D.Disk.meter xs) old) in
       subst (λ (v : Volume). K v c.args.disks.now.items) c.volume-volume.ensures (subst (λ (xs : List g.row.D.Denot). K c.volume-volume.result.now xs) lent c.in-Ok.ensures.held)
 
   -- over others it holds with any
-  untold : g.D.Disk.tells ≡ false → Holds c.in-Ok.driver (left_behind counts [])
-  untold silent = subst (λ (xs : List g.row.D.Denot). Holds c.in-Ok.driver (left_behind (faults_at g.D.Disk.meter xs) [])) lent (c.in-Ok.ensures.untold silent [] (omega arith))
+  untold : g.D.Disk.tells ≡ false → HoldsBetweenTurns c.in-Ok.driver (left_behind counts [])
+  untold silent = subst (λ (xs : List g.row.D.Denot). HoldsBetweenTurns c.in-Ok.driver (left_behind (faults_at g.D.Disk.meter xs) [])) lent (c.in-Ok.ensures.untold silent [] (omega arith))
 
-  module _ (old : List Event) (held : Holds c.in-Ok.driver (left_behind counts old)) where
+  module _ (old : List Event) (held : HoldsBetweenTurns c.in-Ok.driver (left_behind counts old)) where
     before : Before
     before = left_behind counts old
 
-    left_by : Leaves c.perform-status.new.stage (left_behind counts old)
+    left_by : LeavesAtEnd c.perform-status.new.stage (left_behind counts old)
     left_by = elim c.perform-status.ensures.performed.2 [
       | inl plays ↦ plays.1 (left_behind counts old) held
       | inr asks ↦ absurd (no-scrub g c asks.1)
     ]
 
-    holds_by : BetweenTurns end (Holds c.perform-status.new.stage (left_behind counts old))
+    holds_by : BetweenTurns end (HoldsBetweenTurns c.perform-status.new.stage (left_behind counts old))
     holds_by = elim c.perform-status.ensures.performed.2 [
-      | inl plays ↦ between-on end _ (Holds c.perform-status.new.stage (left_behind counts old)) (λ on. on (left_behind counts old) held) plays.2
+      | inl plays ↦ between-on end _ (HoldsBetweenTurns c.perform-status.new.stage (left_behind counts old)) (λ on. on (left_behind counts old) held) plays.2
       | inr asks ↦ absurd (no-scrub g c asks.1)
     ]
 
@@ -188,17 +188,17 @@ module _ (g : given.Over) (c : goal.After-drop-disks g) where
           (begun.last, c.after.ensures volume c.args.request.now.script.lines c.keeps_rules.ensures played.nodes played.export old may_begin (log ++ old) begun)
 
       -- what is left for the next run
-      next_run : LeavesNext end (MayFollow g.D.Disk.image volume (log ++ old) c.close_all-log.result.1.items)
+      next_run : LeavesNext end (MayBeResumed g.D.Disk.image volume (log ++ old) c.close_all-log.result.1.items)
       next_run =
           let new = c.close_all-log.result.1.items in
           let stage = c.perform-status.new.stage in
           let it = run_after in
           let legal : IsLegalInRuns volume (log ++ old) = subst (IsLegalInRuns volume) (sym it.log_is) (c.next_run.ensures volume old it.run it.legal) in
-          next-on end _ (MayFollow g.D.Disk.image volume (log ++ old) new)
+          next-on end _ (MayBeResumed g.D.Disk.image volume (log ++ old) new)
           (λ whole.
           let left = c.close_all-log.ensures.left (left_behind counts old) whole (c.perform-status.ensures.journal ∙ c.in-Ok.ensures.journal) telling in
           may-follow g.D.Disk.image volume (log ++ old) new legal (subst (λ (v : Volume). AreLeft g.D.Disk.image v (log ++ old) new) volume_is left))
-          (whole-end (Holds stage (left_behind counts old)) (Leaves stage (left_behind counts old)) end (refusal_of stage.shared.export) _ c.perform-status.ensures.performed.3 holds_by left_by)
+          (whole-end (HoldsBetweenTurns stage (left_behind counts old)) (LeavesAtEnd stage (left_behind counts old)) end (refusal_of stage.shared.export) _ c.perform-status.ensures.performed.3 holds_by left_by)
 
 pub returns-in-Ok : goal.returns-in-Ok
 returns-in-Ok g c =
@@ -236,15 +236,15 @@ returns-in-Ok g c =
             faults_told = counted g c on.0 on.2;
             images_told = imaged g c on.0 on.2 telling;
             journal_told = left_journal g c on.0 on.2 telling split.0 split.1 disk.0 split.2 split.3 disk.1;
-            next = subst (λ (xs : List g.row.D.Denot). LeavesNext (end g c) (MayFollow g.D.Disk.image (volume g c) (log g c ++ on.0) xs)) new_is (next_run g c on.0 on.2 telling);
+            next = subst (λ (xs : List g.row.D.Denot). LeavesNext (end g c) (MayBeResumed g.D.Disk.image (volume g c) (log g c ++ on.0) xs)) new_is (next_run g c on.0 on.2 telling);
           };
     } in
     let U : List Event → Type 0 = λ h. AreUsedAgain g.D.Disk.tells g.D.Disk.meter g.D.Disk.image (end g c) (volume g c) lines (lost g c) old new h in
     let own : TellsOwn (end g c) c.args.request.now.wish later (log g c) sink c.perform-status.result =
-    told_own (Holds c.in-Ok.driver) g.D.Disk.tells (volume g c) (world_of c.in-Ok.driver) lines c.args.request.now.wish (end g c) later (lost g c) (log g c) sink c.perform-status.result
+    told_own (HoldsBetweenTurns c.in-Ok.driver) g.D.Disk.tells (volume g c) (world_of c.in-Ok.driver) lines c.args.request.now.wish (end g c) later (lost g c) (log g c) sink c.perform-status.result
     c.perform-status.ensures.performed.4 in
     let play : IsPlayAgain g.D.Disk.tells (volume g c) lines (end g c) (lost g c) (log g c) =
-    played_on (Holds c.in-Ok.driver) g.D.Disk.tells (volume g c) (world_of c.in-Ok.driver) lines c.args.request.now.wish (end g c) later (lost g c) (log g c) sink c.perform-status.result
+    played_on (HoldsBetweenTurns c.in-Ok.driver) g.D.Disk.tells (volume g c) (world_of c.in-Ok.driver) lines c.args.request.now.wish (end g c) later (lost g c) (log g c) sink c.perform-status.result
     (state_in c.in-Ok.driver.shared.servers.items) (export_in c.in-Ok.driver.shared.export) (world_is g c) (left_behind (counts g c) []) refl (untold g c) c.perform-status.ensures.performed.4 in
     let S : List Event → Type 0 = λ h. IsPlayAgain g.D.Disk.tells (volume g c) lines (end g c) (lost g c) h in
     let T : List Event → Type 0 = λ h. TellsOwn (end g c) c.args.request.now.wish later h sink c.perform-status.result in (
@@ -268,7 +268,7 @@ returns-in-Err g c =
       new = g.O.Sink.faults c.refuse_opening-status.new.output;
     } in
     let lent_is : c.replace-lent.result.items ≡ c.args.disks.now.items = rw c.replace-lent.ensures.value refl in
-    let kept : AreKept g.D.Disk.meter g.D.Disk.text g.D.Disk.image c.args.disks.now.items c.in-Err.back.items = rw (← lent_is) c.in-Err.ensures.back in
+    let kept : AreDisksBack g.D.Disk.meter g.D.Disk.text g.D.Disk.image c.args.disks.now.items c.in-Err.back.items = rw (← lent_is) c.in-Err.ensures.back in
     let why : IsCauseAgain g.D.Disk.tells g.D.Disk.meter g.D.Disk.text g.D.Disk.image c.args.request.now.script.volume c.args.disks.now.items c.in-Err.back.items c.in-Err.why =
     rw (← lent_is, ← c.volume-volume.ensures) c.in-Err.ensures.cause in
     not-reopened g.D.Disk.tells g.D.Disk.text g.D.Disk.meter g.D.Disk.image c.args.request.now c.args.disks.now.items c.in-Err.back.items (g.L.Link.lost c.args.link.now - g.L.Link.lost c.args.link.now) sink

@@ -7,7 +7,7 @@ use Rattle.rz_driver_actors.specs.declared.shared.Shared.{Shared}
 use Rattle.rz_driver.specs.Continued.{AreLeft}
 use Rattle.rz_driver.specs.Endings.{EndsAsRefused, StandsForLog}
 use Rattle.rz_driver.specs.Formatted.{AreBackWithJournal}
-use Rattle.rz_driver.specs.Worlds.{Holds, Leaves, anew, is_known, world_of}
+use Rattle.rz_driver.specs.Worlds.{HoldsBetweenTurns, LeavesAtEnd, anew, is_known, world_of}
 use Rattle.rz_events.specs.Volume.{Volume, nodes_of}
 use Rattle.rz_events.specs.declared.events.Event.{Event}
 use Rattle.rz_events.specs.declared.files.NodeSpec.{NodeSpec}
@@ -28,7 +28,7 @@ use Rattle.rz_report.specs.Output.{Sunk}
 use Rattle.rz_report.specs.Replays.{Unplayed, Performed, IsToldAs, MayEnd}
 use Rattle.rz_report.specs.Scrubs.{BetweenTurns}
 use Rattle.rz_request.specs.declared.wishes.Wish.TheVariants.{First, Again, Scrub}
-use Rattle.rz_replay.specs.Disks.{AreAllBack, AreBackFrom, AreFaultsTold, AreImagesTold, IsJournalLeft, IsNextTold, MayFollow, faulted}
+use Rattle.rz_replay.specs.Disks.{AreAllBack, AreBackFrom, AreFaultsTold, AreImagesTold, IsJournalLeft, IsNextTold, MayBeResumed, faulted}
 use Rattle.rz_replay.proofs.Journals.{all-back-faults, at-front, at-last, between-on, counted-length, first-back, first-end, has-disk, journal-left, length-joined, may-follow, next-on, split-last, whole-end}
 use Rattle.rz_replay.proofs.Lent.{counted-none, not-opened}
 use Rattle.rz_replay.proofs.Untold.{told-none}
@@ -76,21 +76,21 @@ module _ (g : given.Over) (c : goal.After-drop-disks g) where
   abbrev before : Before
   before = anew first
 
-  held : Holds c.in-Ok.driver before
+  held : HoldsBetweenTurns c.in-Ok.driver before
   held =
       let lent : c.replace-lent.result.items ≡ c.args.disks.now.items = rw c.replace-lent.ensures.value refl in
-      let H : List g.row.D.Denot → Type 0 = λ xs. Holds c.in-Ok.driver (anew (faults_at g.D.Disk.meter xs)) in
+      let H : List g.row.D.Denot → Type 0 = λ xs. HoldsBetweenTurns c.in-Ok.driver (anew (faults_at g.D.Disk.meter xs)) in
       subst H lent c.in-Ok.ensures.held
 
-  left_by : Leaves c.perform-status.new.stage before
+  left_by : LeavesAtEnd c.perform-status.new.stage before
   left_by = elim c.perform-status.ensures.performed.2 [
     | inl plays ↦ plays.1 before held
     | inr asks ↦ absurd (no-scrub g c asks.1)
   ]
 
-  holds_by : BetweenTurns c.perform-status.ensures.performed.0 (Holds c.perform-status.new.stage before)
+  holds_by : BetweenTurns c.perform-status.ensures.performed.0 (HoldsBetweenTurns c.perform-status.new.stage before)
   holds_by = elim c.perform-status.ensures.performed.2 [
-    | inl plays ↦ between-on c.perform-status.ensures.performed.0 _ (Holds c.perform-status.new.stage before) (λ on. on before held) plays.2
+    | inl plays ↦ between-on c.perform-status.ensures.performed.0 _ (HoldsBetweenTurns c.perform-status.new.stage before) (λ on. on before held) plays.2
     | inr asks ↦ absurd (no-scrub g c asks.1)
   ]
 
@@ -157,12 +157,12 @@ returns-in-Ok g c =
     let next : IsNextTold g.D.Disk.tells g.D.Disk.image (Performed end later) v new log =
     λ tells.
     let true_log = c.perform-status.ensures.told (before g c) (held g c) refl new_so tells in
-    next-on end _ (MayFollow g.D.Disk.image v log new)
+    next-on end _ (MayBeResumed g.D.Disk.image v log new)
     (λ whole.
     let left = c.close_all-log.ensures.left (before g c) whole (c.perform-status.ensures.journal ∙ c.in-Ok.ensures.journal) tells in
     let here = subst (λ (x : Volume). AreLeft g.D.Disk.image x (log ++ []) new) (volume_is g c) left in
     may-follow g.D.Disk.image v log new (c.one_run.ensures v log true_log.legal) (subst (λ (h : List Event). AreLeft g.D.Disk.image v h new) no_more here))
-    (whole-end (Holds c.perform-status.new.stage (before g c)) (Leaves c.perform-status.new.stage (before g c)) end (refusal_of c.perform-status.new.stage.shared.export) _ c.perform-status.ensures.performed.3 (holds_by g c) (left_by g c))
+    (whole-end (HoldsBetweenTurns c.perform-status.new.stage (before g c)) (LeavesAtEnd c.perform-status.new.stage (before g c)) end (refusal_of c.perform-status.new.stage.shared.export) _ c.perform-status.ensures.performed.3 (holds_by g c) (left_by g c))
     in
     let all : AreAllBack g.D.Disk.tells meter g.D.Disk.image (Performed end later) v old new log = record {
       nodes = split.0;
@@ -181,7 +181,7 @@ returns-in-Ok g c =
       (
         (
           may,
-          subst P (sym log_is) (performs_as g.D.Disk.tells v lines c.args.request.now.wish end later lost log sink c.perform-status.result (is_anew g c) (performs (Holds c.in-Ok.driver) g.D.Disk.tells v (world_of c.in-Ok.driver) lines c.args.request.now.wish end later lost log (before g c) refl (held g c)
+          subst P (sym log_is) (performs_as g.D.Disk.tells v lines c.args.request.now.wish end later lost log sink c.perform-status.result (is_anew g c) (performs (HoldsBetweenTurns c.in-Ok.driver) g.D.Disk.tells v (world_of c.in-Ok.driver) lines c.args.request.now.wish end later lost log (before g c) refl (held g c)
               new_so sink c.perform-status.result c.perform-status.ensures.performed.4)),
         ),
         λ tells. subst Q (sym log_is) (told_as c.args.request.now.wish v lines lost log (is_anew g c) (c.perform-status.ensures.told (before g c) (held g c) refl new_so tells)),

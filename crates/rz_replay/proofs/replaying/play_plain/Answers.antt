@@ -8,7 +8,7 @@ use Rattle.rz_script.specs.declared.line.Line.{Line}
 use Rattle.rz_events.specs.declared.files.NodeSpec.{NodeSpec}
 use Rattle.rz_driver_nodes.specs.Meters.{faults_at}
 use Rattle.rz_nodes.specs.Formatted.{AreBack, IsCause}
-use Rattle.rz_driver.specs.Worlds.{Holds, anew, world_of}
+use Rattle.rz_driver.specs.Worlds.{HoldsBetweenTurns, anew, world_of}
 use Rattle.rz_core.specs.HeldRecords.{block_of}
 use Rattle.rz_core.specs.History.{facts, text_in}
 use Rattle.rz_node_model.specs.States.{fresh}
@@ -69,7 +69,7 @@ returns-in-Ok g c =
     let lent : c.replace-lent.result.items ≡ c.args.disks.now.items = rw c.replace-lent.ensures.value refl in
     let b : Before = anew (faults_at g.D.Disk.meter c.args.disks.now.items) in
     let volume_is : c.perform-status.new.stage.volume ≡ v = c.perform-status.ensures.volume ∙ c.in-Ok.ensures.volume ∙ c.volume-volume.ensures in
-    let held : Holds c.in-Ok.driver b = rw (← lent) c.in-Ok.ensures.held in
+    let held : HoldsBetweenTurns c.in-Ok.driver b = rw (← lent) c.in-Ok.ensures.held in
     let new = c.in-Ok.ensures.world ∙ ap new_world c.volume-volume.ensures in
     let F : List Event → Type 0 = λ x. AreFaultsTold g.D.Disk.meter c.perform-status.new.stage.volume c.args.disks.now.items c.close-log.result.1.items (x ++ log) in
     let none_asked : later ≡ [] → F [] → F later = λ none counted. subst F (sym none) counted in
@@ -89,7 +89,7 @@ returns-in-Ok g c =
       (
         (
           plain-end end _ c.args.request.now _ _ c.in-Ok.ensures.journal c.perform-status.ensures.performed.3,
-          subst P (sym log_is) (performs_as g.D.Disk.tells v lines c.args.request.now.wish end later lost log sink c.perform-status.result c.requires.anew (performs (Holds c.in-Ok.driver) g.D.Disk.tells v (world_of c.in-Ok.driver) lines c.args.request.now.wish end later lost log b refl held new
+          subst P (sym log_is) (performs_as g.D.Disk.tells v lines c.args.request.now.wish end later lost log sink c.perform-status.result c.requires.anew (performs (HoldsBetweenTurns c.in-Ok.driver) g.D.Disk.tells v (world_of c.in-Ok.driver) lines c.args.request.now.wish end later lost log b refl held new
               sink c.perform-status.result c.perform-status.ensures.performed.4)),
         ),
         λ told. subst Q (sym log_is) (told_as c.args.request.now.wish v lines lost log c.requires.anew (c.perform-status.ensures.told b held refl new told)),

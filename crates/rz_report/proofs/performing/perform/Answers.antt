@@ -5,7 +5,7 @@ use Rattle.rz_play_laws.specs.Runs.{IsScript}
 use Rattle.rz_player.specs.Behind.{behind}
 use Rattle.rz_report.specs.Output.{Sunk}
 use Rattle.rz_report.specs.Telling.{Says}
-use Rattle.rz_report.specs.Told.{IsTold}
+use Rattle.rz_report.specs.Told.{IsPlayReported}
 use Rattle.rz_report.proofs.Begun.{anew_play, plays_so, told_play}
 use Rattle.rz_report.proofs.Seeking.{performed_so, whole_play}
 use Rattle.rz_report.proofs.performing.perform.Goals as goal
@@ -69,7 +69,7 @@ returns-in-Ok-clause-told g c b held none new telling =
     let v = c.args.script.now.volume in
     let lines = c.args.script.now.lines in
     let script : IsScript v lines = record { volume = c.requires.rules; limits = c.lines.ensures.limits; few = c.lines.ensures.few } in
-    let P : List Event → Type 0 = λ h. IsTold v lines lost h in
+    let P : List Event → Type 0 = λ h. IsPlayReported v lines lost h in
     subst P (sym c.find.ensures.log_is) (c.true_logs.ensures v lines script c.play-end.result lost log (anew_play v (g.S.Stage.world first) lines c.play-end.result lost log b.log none new
     (told_play (g.S.Stage.holds first) g.S.Stage.tells v (g.S.Stage.volume first) (g.S.Stage.world first) (g.S.Stage.world c.play-end.new.stage) lines c.lines.result.now c.play-end.result lost
     c.requires.volume c.lines.ensures.value c.requires.new c.told_losses.ensures e.played e.over b held telling)))
@@ -83,7 +83,7 @@ returns-in-Err-clause-told g c b held none new telling =
     let v = c.args.script.now.volume in
     let lines = c.args.script.now.lines in
     let script : IsScript v lines = record { volume = c.requires.rules; limits = c.lines.ensures.limits; few = c.lines.ensures.few } in
-    let P : List Event → Type 0 = λ h. IsTold v lines lost h in
+    let P : List Event → Type 0 = λ h. IsPlayReported v lines lost h in
     subst P (sym c.find.ensures.log_is) (c.true_logs.ensures v lines script c.play-end.result lost log (anew_play v (g.S.Stage.world first) lines c.play-end.result lost log b.log none new
     (told_play (g.S.Stage.holds first) g.S.Stage.tells v (g.S.Stage.volume first) (g.S.Stage.world first) (g.S.Stage.world c.play-end.new.stage) lines c.lines.result.now c.play-end.result lost
     c.requires.volume c.lines.ensures.value c.requires.new c.told_losses.ensures e.played e.over b held telling)))

@@ -15,7 +15,7 @@ use Rattle.rz_chronicle.specs.Keys.{sids_of}
 use Rattle.rz_chronicle.specs.Kinds.{is_honest, volume_in}
 use Rattle.rz_chronicle.specs.Rules.{PassView}
 use Rattle.rz_threads_workers.specs.Moves.{HoldsAll}
-use Rattle.rz_threads.specs.Orders.{AreBegun, AreDone}
+use Rattle.rz_threads.specs.Orders.{AreLinesBegun, AreDone}
 use Rattle.rz_report.specs.Output.{Sunk}
 use Rattle.rz_run.specs.Done.{IsAllFinished}
 use Rattle.rz_run.proofs.PoolWorkers.{actors-are, lost-all, ready-all, shown-all}
@@ -74,7 +74,7 @@ returns-in-Ok g c =
     } in
     let at = volume-is c.read_back.ensures kind v c.requires.kind in
     let begun = all-begun c.read_back.ensures kind v c.requires.kind lines c.args.setup.pool.workers.items c.requires.staffed c.args.setup.admin c.requires.admin log c.play-front.ensures.begun
-    (subst (λ (ls : List Line). AreBegun kind ls c.args.setup.admin.log log) c.lines.ensures.value c.play-front.ensures.ordered) in
+    (subst (λ (ls : List Line). AreLinesBegun kind ls c.args.setup.admin.log log) c.lines.ensures.value c.play-front.ensures.ordered) in
     let finished : c.play-front.result.ended ≡ true → IsAllFinished (is_honest kind) v lines log = λ ended. all-finished c.read_back.ensures kind v c.requires.kind lines c.args.setup.pool.workers.items c.requires.staffed c.args.setup.admin c.requires.admin log (c.play-front.ensures.finished ended)
     (subst (λ (ls : List Line). AreDone kind ls c.args.setup.admin.log log) c.lines.ensures.value (c.play-front.ensures.orders ended)) in
     inr (

@@ -8,7 +8,7 @@ use Rattle.rz_events.specs.declared.files.NodeSpec.{NodeSpec}
 use Rattle.rz_chronicle.specs.Keys.{sids_of}
 use Rattle.rz_chronicle.specs.Kinds.{HasEarlierLog, is_honest, kind_of}
 use Rattle.rz_report.specs.Output.{Sunk}
-use Rattle.rz_run.specs.Runs.{Plays}
+use Rattle.rz_run.specs.Runs.{PlaysRun}
 use Rattle.rz_run.proofs.Firsts.{beside-all}
 use Rattle.rz_run.proofs.Told.{honest-is, kind-is, lacking}
 use Rattle.rz_run.proofs.running.play_script.Goals as goal
@@ -44,7 +44,7 @@ returns-in-Ok g c =
       new = g.O.Sink.faults c.play_named.new.output;
     } in
     let same = honest-is c.read_back.ensures c.args.honest c.args.script.now.volume c.in-Ok.opened.tokens.kind (c.in-Ok.ensures ∙ ap (kind_of c.args.honest) c.volume-volume.ensures) in
-    subst (λ (b : Bool). Plays g.D.Disk.tells b g.D.Disk.meter g.D.Disk.image g.L.Link.lost c.args.script.now (record { old = c.args.disks.items; new = c.play_named.result.disks.items })
+    subst (λ (b : Bool). PlaysRun g.D.Disk.tells b g.D.Disk.meter g.D.Disk.image g.L.Link.lost c.args.script.now (record { old = c.args.disks.items; new = c.play_named.result.disks.items })
     (record { old = c.args.links.items; new = c.play_named.result.links.items }) sink c.play_named.result.status) same c.play_named.ensures
 
 pub returns-in-Err : goal.returns-in-Err

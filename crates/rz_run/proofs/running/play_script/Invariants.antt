@@ -8,7 +8,7 @@ use Rattle.rz_run.proofs.running.play_script.Given as goal
 abbrev pub ghosts-play_named : goal.ghosts-play_named
 ghosts-play_named g a = record {
   book = a.opened.seen.book;
-  tallies = a.opened.tokens.tallies;
+  counters = a.opened.tokens.counters;
   copy = a.opened.tokens.copy;
   kind = a.opened.tokens.kind;
   first = beside (sids_of a.script.now.volume) (map (λ d. faults (g.D.Disk.meter d)) a.disks.items);

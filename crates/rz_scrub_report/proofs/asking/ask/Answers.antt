@@ -6,7 +6,7 @@ use Rattle.rz_events.specs.declared.nodes.FetchAnswer.{FetchAnswer}
 use Rattle.rz_events.specs.declared.nodes.FetchAnswer.TheVariants as fetch
 use Rattle.rz_node_model.specs.NodeEvents.{fetch_event}
 use Rattle.rz_scrub.specs.Records.{Records}
-use Rattle.rz_scrub_report.specs.Asks.{IsAsked, with_given}
+use Rattle.rz_scrub_report.specs.Asks.{IsRecordAsked, with_given}
 use Rattle.rz_scrub_report.proofs.Going.{has-one}
 use Rattle.rz_scrub_report.proofs.asking.ask.Goals as goal
 
@@ -25,7 +25,7 @@ returns-in-Held-clause-asked g c =
     let e = c.fetch-answer.ensures in
     has-one c.args.store.now c.fetch-answer.new.self (fetch_event Admin c.args.node l.key c.args.position l.published.stamp given)
     ((c.args.node, l.key, c.args.position, l.published.stamp, given, refl), tt) (e.onward c.args.position)
-    (λ w next. IsAsked (g.S.ScrubbedStore.gives c.args.store.now) l c.args.position c.args.node w next c.args.desk.now.scrub c.add.new.self.scrub)
+    (λ w next. IsRecordAsked (g.S.ScrubbedStore.gives c.args.store.now) l c.args.position c.args.node w next c.args.desk.now.scrub c.add.new.self.scrub)
     (λ h. record {
       given = given;
       before = c.deref_mut.result.now;
@@ -44,7 +44,7 @@ returns-in_default g c =
       desk = refl;
       asked = has-one c.args.store.now c.fetch-answer.new.self (fetch_event Admin c.args.node l.key c.args.position l.published.stamp given)
           ((c.args.node, l.key, c.args.position, l.published.stamp, given, refl), tt) (e.onward c.args.position)
-          (λ w next. IsAsked (g.S.ScrubbedStore.gives c.args.store.now) l c.args.position c.args.node w next c.args.desk.now.scrub c.args.desk.now.scrub)
+          (λ w next. IsRecordAsked (g.S.ScrubbedStore.gives c.args.store.now) l c.args.position c.args.node w next c.args.desk.now.scrub c.args.desk.now.scrub)
           (λ h. record {
             given = given;
             before = c.deref_mut.result.now;

@@ -1,6 +1,6 @@
 use Rattle.std.proofs.Common.{get_or, drop, ◌∙◌, ◌+◌, [], refl, ap, subst}
 use Rattle.rz_scrub.specs.Records.{Records, bins_at, no_records}
-use Rattle.rz_scrub_report.specs.Asks.{AreAsked, IsAsked}
+use Rattle.rz_scrub_report.specs.Asks.{AreAsked, IsRecordAsked}
 use Rattle.rz_scrub_report.specs.Stores.{State}
 use Rattle.rz_scrub_report.proofs.Gathered.{asked-before, asked-next, bare-after, bare-at-first}
 use Rattle.rz_scrub_report.proofs.Going.{has-none, has-then}
@@ -36,7 +36,7 @@ loop-i-preserved g c =
       bare = bare-after (e.asked.told []) i.bare;
       asked = has-then g.S.ScrubbedStore.then first c.loop-i.store c.ask.new.store
           (λ w mid. (next : State) (t : Records) → AreAsked gives l c.loop-i.i (drop c.loop-i.i nodes) mid next s t → AreAsked gives l 0 nodes w next (no_records c.args.desk.now.layout) t)
-          (λ w next. IsAsked (g.S.ScrubbedStore.gives c.loop-i.store) l c.loop-i.i n w next s s')
+          (λ w next. IsRecordAsked (g.S.ScrubbedStore.gives c.loop-i.store) l c.loop-i.i n w next s s')
           (λ w mid. (next : State) (t : Records) → AreAsked gives l (c.loop-i.i + 1) (drop (c.loop-i.i + 1) nodes) mid next s' t → AreAsked gives l 0 nodes w next (no_records c.args.desk.now.layout) t)
           i.asked e.asked
           (λ h mid now same before asked next t rest. before next t (asked-next gives l nodes c.loop-i.i mid now next s s' t c.loop-i-test.true (asked-before i.asked.onward.given asked) rest));

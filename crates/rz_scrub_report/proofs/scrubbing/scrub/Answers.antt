@@ -3,7 +3,7 @@ use Rattle.std.proofs.lemmas.Result.{IfOk-from_err}
 use Rattle.std.proofs.lemmas.Grind.{common_steps}
 use Rattle.mj_angles.specs.declared.layout.Layout.{Layout}
 use Rattle.rz_export_model.specs.Export.{Export, published_after}
-use Rattle.rz_scrub_report.specs.Asks.{IsFound}
+use Rattle.rz_scrub_report.specs.Asks.{AreRecordsFound}
 use Rattle.rz_scrub_report.specs.Lines.{line_of}
 use Rattle.rz_scrub_report.proofs.Gathered.{found-before}
 use Rattle.rz_scrub_report.proofs.Going.{has-none, has-so, has-then}
@@ -31,7 +31,7 @@ returns-in_err-push_line g c =
     let gives = g.S.ScrubbedStore.gives in
     let layout = (g.S.ScrubbedStore.described first).layout in
     has-then g.S.ScrubbedStore.then first c.blocks-2.store c.find-finding.new.store (λ w mid. IsSoFar layout (gives first) w c.blocks-2.text.items c.blocks-2.after mid)
-    (λ w next. IsFound c.blocks-2.desk.layout (gives c.blocks-2.store) c.in-Some.listed w c.find-finding.result next) _ c.blocks-2.invariant.told c.find-finding.ensures.found (λ h mid next same so found. IfOk-from_err c.from_residual-in_err-push_line.result _ c.from_residual-in_err-push_line.ensures.0)
+    (λ w next. AreRecordsFound c.blocks-2.desk.layout (gives c.blocks-2.store) c.in-Some.listed w c.find-finding.result next) _ c.blocks-2.invariant.told c.find-finding.ensures.found (λ h mid next same so found. IfOk-from_err c.from_residual-in_err-push_line.result _ c.from_residual-in_err-push_line.ensures.0)
 
 pub blocks-2-smaller : goal.blocks-2-smaller
 blocks-2-smaller g c =
@@ -55,11 +55,11 @@ blocks-2-preserved g c =
       desk = e.desk ∙ i.desk;
       layout = i.layout;
       told = has-then g.S.ScrubbedStore.then first last c.find-finding.new.store (λ w mid. IsSoFar layout (gives first) w c.blocks-2.text.items c.blocks-2.after mid)
-          (λ w next. IsFound c.blocks-2.desk.layout (gives last) l w finding next)
+          (λ w next. AreRecordsFound c.blocks-2.desk.layout (gives last) l w finding next)
           (λ w mid. IsSoFar layout (gives first) w c.push_line.new.out.items (Some l.key) mid) i.told e.found
           (λ h mid next same so found.
           let at = ap (λ (s : Export). published_after s c.blocks-2.after) (sym (i.told.onward.export_is h)) ∙ sym (c.published.ensures h) ∙ c.in-Some.is in
-          let here = subst (λ (y : Layout). IsFound y (gives last) l mid finding next) (i.desk ∙ i.layout) found in
+          let here = subst (λ (y : Layout). AreRecordsFound y (gives last) l mid finding next) (i.desk ∙ i.layout) found in
           one-more layout (gives first) (state first h) c.blocks-2.text.items c.push_line.new.out.items c.blocks-2.after mid next l finding at
           (found-before layout l mid next finding i.told.onward.given here) pushed so);
     }

@@ -2,12 +2,12 @@ use Rattle.std.proofs.Common.{subst, sym}
 use Rattle.rz_events.specs.declared.keys.Actor.{Actor}
 use Rattle.rz_node_model.specs.NodeEvents.{node_event}
 use Rattle.rz_chronicle.specs.Keys.{IsOneOf, actor_key}
-use Rattle.rz_shared_locked.specs.LockedNodes.{Answered, IsFor}
+use Rattle.rz_shared_locked.specs.LockedNodes.{Answered, IsAskerRight}
 use Rattle.rz_threads.proofs.Done.{for-admin, called, idle}
 use Rattle.rz_threads.proofs.orders.order.Goals as goal
 
 pub node_call-answer-requires-clause-actor : goal.node_call-answer-requires-clause-actor
-node_call-answer-requires-clause-actor g c = subst (λ (by : Actor). IsFor by c.args.ask.now) (sym c.requires.admin) (for-admin c.args.ask.now c.requires.order)
+node_call-answer-requires-clause-actor g c = subst (λ (by : Actor). IsAskerRight by c.args.ask.now) (sym c.requires.admin) (for-admin c.args.ask.now c.requires.order)
 
 pub returns-then-wants_memory-clause-idle : goal.returns-then-wants_memory-clause-idle
 returns-then-wants_memory-clause-idle g c =

@@ -4,7 +4,7 @@ use Rattle.std.specs.Global.{Vec}
 use Rattle.std.proofs.lemmas.Slice.Zip.{AllZip-long}
 use Rattle.rz_events.specs.declared.events.Event.{Event}
 use Rattle.rz_chronicle.specs.Rules.{PassView}
-use Rattle.rz_threads_workers.specs.Gathered.{IsHeld}
+use Rattle.rz_threads_workers.specs.Gathered.{HoldsPass}
 use Rattle.rz_threads.proofs.Done.{begun-on, done-on}
 use Rattle.rz_threads_workers.specs.WorkerPool.{IsRoomFor, WantsNothing}
 use Rattle.rz_threads.specs.PlayResult.{HasLost}
@@ -22,13 +22,13 @@ returns-clause-held g c = λ are.
 pub returns-clause-begun : goal.returns-clause-begun
 returns-clause-begun g c =
     let front = c.gather_up-front.result.front in
-    let held = subst (AllByRecursion (IsHeld front)) c.take_results-links.ensures.passes c.gather_up-front.ensures.held in
+    let held = subst (AllByRecursion (HoldsPass front)) c.take_results-links.ensures.passes c.gather_up-front.ensures.held in
     begun-all g.L.Link.lost g.J.Naming.kind front c.args.pool.workers.items c.at_work-workers.result.workers.items c.at_work-workers.ensures.worked held
 
 pub returns-clause-finished : goal.returns-clause-finished
 returns-clause-finished g c = λ is.
     let front = c.gather_up-front.result.front in
-    let held = subst (AllByRecursion (IsHeld front)) c.take_results-links.ensures.passes c.gather_up-front.ensures.held in
+    let held = subst (AllByRecursion (HoldsPass front)) c.take_results-links.ensures.passes c.gather_up-front.ensures.held in
     let both = and-both _ _ (sym c.both-ended.ensures ∙ is) in
     finished-all g.L.Link.lost g.J.Naming.kind front c.args.pool.workers.items c.at_work-workers.result.workers.items c.at_work-workers.ensures.worked held (subst (AllByRecursion WantsNothing) c.as_slice.ensures.value (c.have_finished-finished.ensures.all both.1))
 
@@ -43,13 +43,13 @@ returns-clause-orders g c = λ is.
 pub returns-clause-links : goal.returns-clause-links
 returns-clause-links g c =
     let front = c.gather_up-front.result.front in
-    let held = subst (AllByRecursion (IsHeld front)) c.take_results-links.ensures.passes c.gather_up-front.ensures.held in
+    let held = subst (AllByRecursion (HoldsPass front)) c.take_results-links.ensures.passes c.gather_up-front.ensures.held in
     let all = lost-all g.L.Link.lost g.J.Naming.kind front c.args.pool.workers.items c.at_work-workers.result.workers.items c.at_work-workers.ensures.worked held in
     subst (λ (ls : List g.row.L.Denot). AllZip (HasLost g.L.Link.lost front.log) c.args.pool.workers.items ls) (sym c.take_results-links.ensures.links) all
 
 pub returns-clause-shown : goal.returns-clause-shown
 returns-clause-shown g c =
     let front = c.gather_up-front.result.front in
-    let held = subst (AllByRecursion (IsHeld front)) c.take_results-links.ensures.passes c.gather_up-front.ensures.held in
+    let held = subst (AllByRecursion (HoldsPass front)) c.take_results-links.ensures.passes c.gather_up-front.ensures.held in
     ap (map (λ (s : Vec Event). s.items)) c.take_results-links.ensures.shown
     ∙ shown-all g.L.Link.lost g.J.Naming.kind front c.args.pool.workers.items c.at_work-workers.result.workers.items c.at_work-workers.ensures.worked held

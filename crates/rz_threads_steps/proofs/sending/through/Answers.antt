@@ -8,7 +8,7 @@ use Rattle.rz_operation_model.specs.Steps.{Answered}
 use Rattle.rz_core.specs.History.{of_actor}
 use Rattle.rz_chronicle.specs.Kinds.{is_honest, volume_in}
 use Rattle.rz_show.specs.Shown.{shown_of}
-use Rattle.rz_threads_steps.specs.Acted.{Lasts}
+use Rattle.rz_threads_steps.specs.Acted.{PassLasts}
 use Rattle.rz_threads_steps.specs.Asking.{IsPlaced}
 use Rattle.rz_chronicle.specs.Rules.{PassView}
 use Rattle.rz_play.specs.Faults.{missed}
@@ -30,7 +30,7 @@ pub returns-then-not-is_placed-clause-cut : goal.returns-then-not-is_placed-clau
 returns-then-not-is_placed-clause-cut g c = still-cut c.args.pass.now.actor c.args.pass.now.log c.args.machine.now
 
 pub returns-in_err-answer-clause-lasts : goal.returns-in_err-answer-clause-lasts
-returns-in_err-answer-clause-lasts g c = subst (λ (q : PassView). Lasts g.J.Naming.kind c.args.pass.now q) (sym c.in_err-answer.ensures.still) (still-lasts g.J.Naming.kind c.args.pass.now c.actor-fit.ensures.fit)
+returns-in_err-answer-clause-lasts g c = subst (λ (q : PassView). PassLasts g.J.Naming.kind c.args.pass.now q) (sym c.in_err-answer.ensures.still) (still-lasts g.J.Naming.kind c.args.pass.now c.actor-fit.ensures.fit)
 
 pub returns-in_err-answer-clause-quiet : goal.returns-in_err-answer-clause-quiet
 returns-in_err-answer-clause-quiet g c = ap (λ (q : PassView). missed (of_actor c.args.pass.now.actor q.log)) c.in_err-answer.ensures.still

@@ -7,7 +7,7 @@ use Rattle.rz_operation_model.specs.Steps.{Answered}
 use Rattle.rz_core.specs.History.{of_actor}
 use Rattle.rz_chronicle.specs.Kinds.{is_honest, volume_in}
 use Rattle.rz_show.specs.Shown.{shown_of}
-use Rattle.rz_threads_steps.specs.Acted.{Lasts}
+use Rattle.rz_threads_steps.specs.Acted.{PassLasts}
 use Rattle.rz_threads_steps.specs.Adding.{AddsOwn}
 use Rattle.rz_chronicle.specs.Rules.{PassView}
 use Rattle.rz_play.specs.Faults.{missed}
@@ -19,7 +19,7 @@ use Rattle.rz_threads_steps.proofs.Messages.{event-of, may-miss, open-after, not
 use Rattle.rz_threads_steps.proofs.sending.without_reply.Goals as goal
 
 pub returns-in_err-answer-clause-lasts : goal.returns-in_err-answer-clause-lasts
-returns-in_err-answer-clause-lasts g c = subst (λ (q : PassView). Lasts g.J.Naming.kind c.args.pass.now q) (sym c.in_err-answer.ensures.still) (still-lasts g.J.Naming.kind c.args.pass.now c.actor-fit.ensures.fit)
+returns-in_err-answer-clause-lasts g c = subst (λ (q : PassView). PassLasts g.J.Naming.kind c.args.pass.now q) (sym c.in_err-answer.ensures.still) (still-lasts g.J.Naming.kind c.args.pass.now c.actor-fit.ensures.fit)
 
 pub returns-in_err-answer-clause-one : goal.returns-in_err-answer-clause-one
 returns-in_err-answer-clause-one g c = (let same = ap (λ (q : PassView). missed (of_actor c.args.pass.now.actor q.log)) c.in_err-answer.ensures.still in omega (arith, same))

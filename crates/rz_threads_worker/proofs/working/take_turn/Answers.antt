@@ -12,17 +12,17 @@ use Rattle.rz_threads_worker.proofs.Agendas.{all-taken, ready-on, hand-layout, h
 use Rattle.rz_threads_worker.proofs.Workings.{written, ready-again, turn-begun, turn-taken}
 use Rattle.rz_threads_worker.proofs.working.take_turn.Goals as goal
 
-pub returns-in_err-take_up-clause-lasts : goal.returns-in_err-take_up-clause-lasts
-returns-in_err-take_up-clause-lasts g c = still-lasts g.J.Naming.kind c.args.worker.now.pass c.actor-fit.ensures.fit
+pub returns-in_err-begin_next-clause-lasts : goal.returns-in_err-begin_next-clause-lasts
+returns-in_err-begin_next-clause-lasts g c = still-lasts g.J.Naming.kind c.args.worker.now.pass c.actor-fit.ensures.fit
 
-pub returns-in_err-take_up-clause-lost : goal.returns-in_err-take_up-clause-lost
-returns-in_err-take_up-clause-lost g c = still-lost c.args.worker.now.pass.actor c.args.worker.now.pass.log (g.L.Link.lost c.args.worker.now.link)
+pub returns-in_err-begin_next-clause-lost : goal.returns-in_err-begin_next-clause-lost
+returns-in_err-begin_next-clause-lost g c = still-lost c.args.worker.now.pass.actor c.args.worker.now.pass.log (g.L.Link.lost c.args.worker.now.link)
 
-pub returns-in_err-take_up-clause-shown : goal.returns-in_err-take_up-clause-shown
-returns-in_err-take_up-clause-shown g c = c.requires.ready.shows
+pub returns-in_err-begin_next-clause-shown : goal.returns-in_err-begin_next-clause-shown
+returns-in_err-begin_next-clause-shown g c = c.requires.ready.shows
 
-pub returns-in_err-take_up-clause-begun : goal.returns-in_err-take_up-clause-begun
-returns-in_err-take_up-clause-begun g c = on-err c.from_residual.result (agenda_of c.args.worker.now.agenda, none-done (is_honest g.J.Naming.kind) (volume_in g.J.Naming.kind).layout c.args.worker.now.pass.actor (agenda_of c.args.worker.now.agenda) c.args.worker.now.pass.log c.args.worker.now.pass.log refl)
+pub returns-in_err-begin_next-clause-begun : goal.returns-in_err-begin_next-clause-begun
+returns-in_err-begin_next-clause-begun g c = on-err c.from_residual.result (agenda_of c.args.worker.now.agenda, none-done (is_honest g.J.Naming.kind) (volume_in g.J.Naming.kind).layout c.args.worker.now.pass.actor (agenda_of c.args.worker.now.agenda) c.args.worker.now.pass.log c.args.worker.now.pass.log refl)
 
 pub returns-in_default-clause-lasts : goal.returns-in_default-clause-lasts
 returns-in_default-clause-lasts g c = still-lasts g.J.Naming.kind c.args.worker.now.pass c.actor-fit.ensures.fit
@@ -36,8 +36,8 @@ returns-in_default-clause-shown g c = c.requires.ready.shows
 pub returns-in_default-clause-begun : goal.returns-in_default-clause-begun
 returns-in_default-clause-begun g c = (agenda_of c.args.worker.now.agenda, none-done (is_honest g.J.Naming.kind) (volume_in g.J.Naming.kind).layout c.args.worker.now.pass.actor (agenda_of c.args.worker.now.agenda) c.args.worker.now.pass.log c.args.worker.now.pass.log refl)
 
-pub take_up-requires : goal.take_up-requires
-take_up-requires g c = (
+pub begin_next-requires : goal.begin_next-requires
+begin_next-requires g c = (
   c.type_bounds.sync-R,
   subst (λ (y : Layout). AllByRecursion (answers.IsOperation y) c.args.worker.now.agenda.todo.items) (sym (c.layout-layout.ensures ∙ ap (λ (v : Volume). v.layout) c.requires.volume))
       (all-taken (volume_in g.J.Naming.kind) (c.begins.ensures (volume_in g.J.Naming.kind)) c.args.worker.now.pass.actor c.args.worker.now.agenda.todo.items c.requires.ready.todo),
@@ -47,10 +47,10 @@ pub act-requires-clause-actor : goal.act-requires-clause-actor
 act-requires-clause-actor g c = c.requires.ready.actor
 
 pub act-requires-clause-layout : goal.act-requires-clause-layout
-act-requires-clause-layout g c = (hand-layout g.J.Naming.kind c.args.worker.now.pass c.take_up.new.self c.take_up.new.self c.args.worker.now.bins.items c.args.worker.now.shown.items (ready-on g.J.Naming.kind c.args.worker.now.pass c.args.worker.now.agenda c.take_up.new.self c.args.worker.now.bins.items c.args.worker.now.shown.items c.requires.ready (c.begins.ensures (volume_in g.J.Naming.kind)) c.layout-layout.result (c.layout-layout.ensures ∙ ap (λ (v : Volume). v.layout) c.requires.volume) c.in_ok-take_up.ensures) c.in-Some.machine c.in-Some.is)
+act-requires-clause-layout g c = (hand-layout g.J.Naming.kind c.args.worker.now.pass c.begin_next.new.self c.begin_next.new.self c.args.worker.now.bins.items c.args.worker.now.shown.items (ready-on g.J.Naming.kind c.args.worker.now.pass c.args.worker.now.agenda c.begin_next.new.self c.args.worker.now.bins.items c.args.worker.now.shown.items c.requires.ready (c.begins.ensures (volume_in g.J.Naming.kind)) c.layout-layout.result (c.layout-layout.ensures ∙ ap (λ (v : Volume). v.layout) c.requires.volume) c.in_ok-begin_next.ensures) c.in-Some.machine c.in-Some.is)
 
 pub act-requires-clause-right : goal.act-requires-clause-right
-act-requires-clause-right g c = hand-right g.J.Naming.kind c.args.worker.now.pass c.take_up.new.self c.take_up.new.self c.args.worker.now.bins.items c.args.worker.now.shown.items (ready-on g.J.Naming.kind c.args.worker.now.pass c.args.worker.now.agenda c.take_up.new.self c.args.worker.now.bins.items c.args.worker.now.shown.items c.requires.ready (c.begins.ensures (volume_in g.J.Naming.kind)) c.layout-layout.result (c.layout-layout.ensures ∙ ap (λ (v : Volume). v.layout) c.requires.volume) c.in_ok-take_up.ensures) c.in-Some.machine c.in-Some.is
+act-requires-clause-right g c = hand-right g.J.Naming.kind c.args.worker.now.pass c.begin_next.new.self c.begin_next.new.self c.args.worker.now.bins.items c.args.worker.now.shown.items (ready-on g.J.Naming.kind c.args.worker.now.pass c.args.worker.now.agenda c.begin_next.new.self c.args.worker.now.bins.items c.args.worker.now.shown.items c.requires.ready (c.begins.ensures (volume_in g.J.Naming.kind)) c.layout-layout.result (c.layout-layout.ensures ∙ ap (λ (v : Volume). v.layout) c.requires.volume) c.in_ok-begin_next.ensures) c.in-Some.machine c.in-Some.is
 
 pub act-requires-clause-room : goal.act-requires-clause-room
 act-requires-clause-room g c = subst (λ (xs : List ℕ). max_bins_of (volume_in g.J.Naming.kind).layout ≤ length xs) (sym c.deref_mut.ensures.value) c.requires.ready.room
@@ -77,10 +77,10 @@ pub returns-clause-shown : goal.returns-clause-shown
 returns-clause-shown g c = c.in_ok-act.ensures.shows
 
 pub returns-in_err-act-clause-begun : goal.returns-in_err-act-clause-begun
-returns-in_err-act-clause-begun g c = on-err c.from_residual-in_err-act.result (turn-begun g.J.Naming.kind c.args.worker.now.pass c.act.new.pass c.layout-layout.result c.args.worker.now.agenda c.take_up.new.self c.in-Some.machine (c.layout-layout.ensures ∙ ap (λ (v : Volume). v.layout) c.requires.volume) c.in_ok-take_up.ensures c.in-Some.is (hand-layout g.J.Naming.kind c.args.worker.now.pass c.take_up.new.self c.take_up.new.self c.args.worker.now.bins.items c.args.worker.now.shown.items (ready-on g.J.Naming.kind c.args.worker.now.pass c.args.worker.now.agenda c.take_up.new.self c.args.worker.now.bins.items c.args.worker.now.shown.items c.requires.ready (c.begins.ensures (volume_in g.J.Naming.kind)) c.layout-layout.result (c.layout-layout.ensures ∙ ap (λ (v : Volume). v.layout) c.requires.volume) c.in_ok-take_up.ensures) c.in-Some.machine c.in-Some.is) c.in_err-act.ensures.cut)
+returns-in_err-act-clause-begun g c = on-err c.from_residual-in_err-act.result (turn-begun g.J.Naming.kind c.args.worker.now.pass c.act.new.pass c.layout-layout.result c.args.worker.now.agenda c.begin_next.new.self c.in-Some.machine (c.layout-layout.ensures ∙ ap (λ (v : Volume). v.layout) c.requires.volume) c.in_ok-begin_next.ensures c.in-Some.is (hand-layout g.J.Naming.kind c.args.worker.now.pass c.begin_next.new.self c.begin_next.new.self c.args.worker.now.bins.items c.args.worker.now.shown.items (ready-on g.J.Naming.kind c.args.worker.now.pass c.args.worker.now.agenda c.begin_next.new.self c.args.worker.now.bins.items c.args.worker.now.shown.items c.requires.ready (c.begins.ensures (volume_in g.J.Naming.kind)) c.layout-layout.result (c.layout-layout.ensures ∙ ap (λ (v : Volume). v.layout) c.requires.volume) c.in_ok-begin_next.ensures) c.in-Some.machine c.in-Some.is) c.in_err-act.ensures.cut)
 
 pub returns-clause-ready : goal.returns-clause-ready
-returns-clause-ready g c = ready-again g.J.Naming.kind c.args.worker.now.pass c.act.new.pass c.take_up.new.self c.in-Some.machine c.act.new.machine c.args.worker.now.bins.items _ c.args.worker.now.shown.items c.act.new.shown.items (ready-on g.J.Naming.kind c.args.worker.now.pass c.args.worker.now.agenda c.take_up.new.self c.args.worker.now.bins.items c.args.worker.now.shown.items c.requires.ready (c.begins.ensures (volume_in g.J.Naming.kind)) c.layout-layout.result (c.layout-layout.ensures ∙ ap (λ (v : Volume). v.layout) c.requires.volume) c.in_ok-take_up.ensures) c.in_ok-act.ensures.lasts c.in_ok-act.ensures.acted (hand-layout g.J.Naming.kind c.args.worker.now.pass c.take_up.new.self c.take_up.new.self c.args.worker.now.bins.items c.args.worker.now.shown.items (ready-on g.J.Naming.kind c.args.worker.now.pass c.args.worker.now.agenda c.take_up.new.self c.args.worker.now.bins.items c.args.worker.now.shown.items c.requires.ready (c.begins.ensures (volume_in g.J.Naming.kind)) c.layout-layout.result (c.layout-layout.ensures ∙ ap (λ (v : Volume). v.layout) c.requires.volume) c.in_ok-take_up.ensures) c.in-Some.machine c.in-Some.is) (written c.args.worker.now.bins.len c.act.new.bins c.args.worker.now.bins.items (c.act.auto.bins ∙ ap length c.deref_mut.ensures.value) (sym c.deref_mut.ensures.len ∙ ap length c.deref_mut.ensures.value)) c.in_ok-act.ensures.shows
+returns-clause-ready g c = ready-again g.J.Naming.kind c.args.worker.now.pass c.act.new.pass c.begin_next.new.self c.in-Some.machine c.act.new.machine c.args.worker.now.bins.items _ c.args.worker.now.shown.items c.act.new.shown.items (ready-on g.J.Naming.kind c.args.worker.now.pass c.args.worker.now.agenda c.begin_next.new.self c.args.worker.now.bins.items c.args.worker.now.shown.items c.requires.ready (c.begins.ensures (volume_in g.J.Naming.kind)) c.layout-layout.result (c.layout-layout.ensures ∙ ap (λ (v : Volume). v.layout) c.requires.volume) c.in_ok-begin_next.ensures) c.in_ok-act.ensures.lasts c.in_ok-act.ensures.acted (hand-layout g.J.Naming.kind c.args.worker.now.pass c.begin_next.new.self c.begin_next.new.self c.args.worker.now.bins.items c.args.worker.now.shown.items (ready-on g.J.Naming.kind c.args.worker.now.pass c.args.worker.now.agenda c.begin_next.new.self c.args.worker.now.bins.items c.args.worker.now.shown.items c.requires.ready (c.begins.ensures (volume_in g.J.Naming.kind)) c.layout-layout.result (c.layout-layout.ensures ∙ ap (λ (v : Volume). v.layout) c.requires.volume) c.in_ok-begin_next.ensures) c.in-Some.machine c.in-Some.is) (written c.args.worker.now.bins.len c.act.new.bins c.args.worker.now.bins.items (c.act.auto.bins ∙ ap length c.deref_mut.ensures.value) (sym c.deref_mut.ensures.len ∙ ap length c.deref_mut.ensures.value)) c.in_ok-act.ensures.shows
 
 pub returns-clause-done : goal.returns-clause-done
-returns-clause-done g c = turn-taken g.J.Naming.kind c.args.worker.now.pass c.act.new.pass c.layout-layout.result c.args.worker.now.agenda c.take_up.new.self c.in-Some.machine (c.layout-layout.ensures ∙ ap (λ (v : Volume). v.layout) c.requires.volume) c.in_ok-take_up.ensures c.in-Some.is (hand-layout g.J.Naming.kind c.args.worker.now.pass c.take_up.new.self c.take_up.new.self c.args.worker.now.bins.items c.args.worker.now.shown.items (ready-on g.J.Naming.kind c.args.worker.now.pass c.args.worker.now.agenda c.take_up.new.self c.args.worker.now.bins.items c.args.worker.now.shown.items c.requires.ready (c.begins.ensures (volume_in g.J.Naming.kind)) c.layout-layout.result (c.layout-layout.ensures ∙ ap (λ (v : Volume). v.layout) c.requires.volume) c.in_ok-take_up.ensures) c.in-Some.machine c.in-Some.is) c.act.new.machine c.in_ok-act.ensures.acted
+returns-clause-done g c = turn-taken g.J.Naming.kind c.args.worker.now.pass c.act.new.pass c.layout-layout.result c.args.worker.now.agenda c.begin_next.new.self c.in-Some.machine (c.layout-layout.ensures ∙ ap (λ (v : Volume). v.layout) c.requires.volume) c.in_ok-begin_next.ensures c.in-Some.is (hand-layout g.J.Naming.kind c.args.worker.now.pass c.begin_next.new.self c.begin_next.new.self c.args.worker.now.bins.items c.args.worker.now.shown.items (ready-on g.J.Naming.kind c.args.worker.now.pass c.args.worker.now.agenda c.begin_next.new.self c.args.worker.now.bins.items c.args.worker.now.shown.items c.requires.ready (c.begins.ensures (volume_in g.J.Naming.kind)) c.layout-layout.result (c.layout-layout.ensures ∙ ap (λ (v : Volume). v.layout) c.requires.volume) c.in_ok-begin_next.ensures) c.in-Some.machine c.in-Some.is) c.act.new.machine c.in_ok-act.ensures.acted

@@ -1,13 +1,13 @@
 use Rattle.std.proofs.Common.{ℕ, length, sym, ap, ◌∙◌, subst}
 use Rattle.std.specs.List.{AllByRecursion}
-use Rattle.rz_threads_workers.specs.WorkerPool.{CanJoin, HasRoom, IsMadeOf, IsNew, AreWorkerParts, IsPoolWorker}
+use Rattle.rz_threads_workers.specs.WorkerPool.{CanJoin, IsRowFor, IsMadeOf, IsNewPass, AreWorkerParts, IsPoolWorker}
 use Rattle.rz_threads_workers.proofs.Pairs.{zip-length, zip-second, zip-through}
 use Rattle.rz_threads_workers.proofs.Rolls.{all-new, eighty}
 use Rattle.rz_threads_workers.proofs.MakingPools.{staffed}
 use Rattle.rz_threads_workers.proofs.making.make_pool.Goals as goal
 
 pub prepare-requires-clause-new : goal.prepare-requires-clause-new
-prepare-requires-clause-new g c = subst (AllByRecursion IsNew) (sym c.requires.passes) all-new
+prepare-requires-clause-new g c = subst (AllByRecursion IsNewPass) (sym c.requires.passes) all-new
 
 pub make_workers-workers-requires-clause-can : goal.make_workers-workers-requires-clause-can
 make_workers-workers-requires-clause-can g c =
@@ -16,7 +16,7 @@ make_workers-workers-requires-clause-can g c =
 pub make_workers-workers-requires-clause-room : goal.make_workers-workers-requires-clause-room
 make_workers-workers-requires-clause-room g c =
     let same = zip-length (AreWorkerParts g.J.Naming.kind c.args.lines.now) c.args.passes.items c.in-Ok.offer.all_parts.items c.in-Ok.ensures.all_parts in
-    subst (λ (n : ℕ). HasRoom n c.in-Ok.offer.workers) same c.in-Ok.ensures.workers
+    subst (λ (n : ℕ). IsRowFor n c.in-Ok.offer.workers) same c.in-Ok.ensures.workers
 
 pub make_workers-workers-requires-clause-links : goal.make_workers-workers-requires-clause-links
 make_workers-workers-requires-clause-links g c =
@@ -29,9 +29,9 @@ invariant_of-result g c =
     let two = zip-length (IsMadeOf g.J.Naming.kind) c.in-Ok.offer.all_parts.items c.make_workers-workers.result.0.items c.make_workers-workers.ensures.hired in
     record {
       fits = record {
-        links = subst (λ (n : ℕ). HasRoom n c.make_workers-workers.result.1) two c.make_workers-workers.ensures.empty;
-        passes = subst (λ (n : ℕ). HasRoom n c.in-Ok.offer.passes) (one ∙ two) c.in-Ok.ensures.passes;
-        shown = subst (λ (n : ℕ). HasRoom n c.in-Ok.offer.shown) (one ∙ two) c.in-Ok.ensures.shown;
+        links = subst (λ (n : ℕ). IsRowFor n c.make_workers-workers.result.1) two c.make_workers-workers.ensures.empty;
+        passes = subst (λ (n : ℕ). IsRowFor n c.in-Ok.offer.passes) (one ∙ two) c.in-Ok.ensures.passes;
+        shown = subst (λ (n : ℕ). IsRowFor n c.in-Ok.offer.shown) (one ∙ two) c.in-Ok.ensures.shown;
       };
     }
 

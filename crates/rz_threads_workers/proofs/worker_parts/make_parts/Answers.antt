@@ -1,7 +1,7 @@
 use Rattle.std.proofs.Common.{sym, ◌∙◌}
 use Rattle.std.specs.Vec.Iter.{into_iter_items}
 use Rattle.rz_threads_workers.proofs.Taken.{empty}
-use Rattle.rz_threads_workers.proofs.Recruits.{so-far-first, so-far-more, so-far-all, next-new}
+use Rattle.rz_threads_workers.proofs.PartsMade.{so-far-first, so-far-more, so-far-all, next-new}
 use Rattle.rz_threads_workers.proofs.worker_parts.make_parts.Goals as goal
 
 pub loop-pass-init : goal.loop-pass-init

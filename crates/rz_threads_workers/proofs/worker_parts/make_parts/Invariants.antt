@@ -1,5 +1,5 @@
 use Rattle.std.specs.Vec.Iter.{into_iter_items}
-use Rattle.rz_threads_workers.proofs.Recruits.{SoFar}
+use Rattle.rz_threads_workers.proofs.PartsMade.{SoFar}
 use Rattle.rz_threads_workers.proofs.worker_parts.make_parts.Given as goal
 
 -- the first have what they have to do

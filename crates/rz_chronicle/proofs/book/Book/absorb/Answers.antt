@@ -8,7 +8,7 @@ use Rattle.rz_events.specs.declared.events.Word.TheVariants.{Own}
 use Rattle.rz_chronicle.specs.Keys.{rows, count_at, IsLater, sids_of}
 use Rattle.rz_chronicle.specs.Kinds.{history, HavePlaces, Fits, volume_in}
 use Rattle.rz_chronicle.specs.Tokens.{at, counts, Agree, AllInRow}
-use Rattle.rz_chronicle.specs.Holds.{AreTokens, IsOwn, Stays, keys}
+use Rattle.rz_chronicle.specs.Holds.{AreTokens, AreTokensOf, Stays, keys}
 use Rattle.rz_chronicle.specs.Rules.{PassView}
 use Rattle.rz_chronicle.proofs.Histories.{later, stays}
 use Rattle.rz_chronicle.proofs.TokenLaws.{taken, taken-keys, at-same-keys, keys-append, agree-left, agree-right, low-append, own-left, own-place, member-low, tokens-made, own-after, own-same}
@@ -25,13 +25,13 @@ view-tokens-requires-clause-key g c = (Own c.front.inside.actor, ap (λ (n : Nam
 pub view-tokens-requires-clause-held : goal.view-tokens-requires-clause-held
 view-tokens-requires-clause-held g c =
     let log = c.front.inside.seen.log in let log2 = c.args.seen.now.log in let mine = c.in-Some.mine in let theirs = c.args.theirs in let o = c.requires.theirs in
-    let h = taken (λ h. AreTokens g.J.Naming.tallies g.J.Naming.copy g.J.Naming.kind log h × IsOwn c.front.inside.actor h.held) c.front.inside.tokens c.take.result mine c.take.ensures.value c.in-Some.is c.front.invariant.2 in
+    let h = taken (λ h. AreTokens g.J.Naming.counters g.J.Naming.copy g.J.Naming.kind log h × AreTokensOf c.front.inside.actor h.held) c.front.inside.tokens c.take.result mine c.take.ensures.value c.in-Some.is c.front.invariant.2 in
     subst AllInRow (sym c.join.ensures.3) (low-append mine.held theirs.held h.0.low o.low)
 
 pub invariant_of-front : goal.invariant_of-front
 invariant_of-front g c =
     let log = c.front.inside.seen.log in let log2 = c.args.seen.now.log in let mine = c.in-Some.mine in let theirs = c.args.theirs in let o = c.requires.theirs in
-    let h = taken (λ h. AreTokens g.J.Naming.tallies g.J.Naming.copy g.J.Naming.kind log h × IsOwn c.front.inside.actor h.held) c.front.inside.tokens c.take.result mine c.take.ensures.value c.in-Some.is c.front.invariant.2 in
+    let h = taken (λ h. AreTokens g.J.Naming.counters g.J.Naming.copy g.J.Naming.kind log h × AreTokensOf c.front.inside.actor h.held) c.front.inside.tokens c.take.result mine c.take.ensures.value c.in-Some.is c.front.invariant.2 in
     let a = c.view-tokens.ensures in let r = c.view-tokens.result.0 in let new = c.view-tokens.new.seen.log in
     let from : IsPrefix log new = prefix_trans log c.learn.new.self.log new c.learn.ensures.2 a.seen in
     let from2 : IsPrefix log2 new = prefix_trans log2 c.learn.new.self.log new c.learn.ensures.3 a.seen in
@@ -40,7 +40,7 @@ invariant_of-front g c =
       a.book.0 ∙ (c.learn.ensures.0 ∙ c.front.invariant.0),
       a.book.1 ∙ (c.learn.ensures.1 ∙ c.front.invariant.1),
       (
-        tokens-made g.J.Naming.tallies g.J.Naming.copy g.J.Naming.kind new (mine.held ++ theirs.held) r (a.tokens.0 ∙ (c.join.ensures.0 ∙ h.0.tallies_is)) (a.tokens.1 ∙ (c.join.ensures.1 ∙ h.0.copy_is)) (a.tokens.2 ∙ (c.join.ensures.2 ∙ h.0.kind_is))
+        tokens-made g.J.Naming.counters g.J.Naming.copy g.J.Naming.kind new (mine.held ++ theirs.held) r (a.tokens.0 ∙ (c.join.ensures.0 ∙ h.0.counters_is)) (a.tokens.1 ∙ (c.join.ensures.1 ∙ h.0.copy_is)) (a.tokens.2 ∙ (c.join.ensures.2 ∙ h.0.kind_is))
             held a.held.1 (low-append mine.held theirs.held h.0.low o.low),
         own-after c.front.inside.actor (λ k. count_at k new) (mine.held ++ theirs.held) r.held held (own-left c.front.inside.actor mine.held theirs.held h.1),
       ),
@@ -54,7 +54,7 @@ invariant_of-front g c =
 pub returns-in-Some-clause-same : goal.returns-in-Some-clause-same
 returns-in-Some-clause-same g c =
     let log = c.front.inside.seen.log in let log2 = c.args.seen.now.log in let mine = c.in-Some.mine in let theirs = c.args.theirs in let o = c.requires.theirs in
-    let h = taken (λ h. AreTokens g.J.Naming.tallies g.J.Naming.copy g.J.Naming.kind log h × IsOwn c.front.inside.actor h.held) c.front.inside.tokens c.take.result mine c.take.ensures.value c.in-Some.is c.front.invariant.2 in
+    let h = taken (λ h. AreTokens g.J.Naming.counters g.J.Naming.copy g.J.Naming.kind log h × AreTokensOf c.front.inside.actor h.held) c.front.inside.tokens c.take.result mine c.take.ensures.value c.in-Some.is c.front.invariant.2 in
     let a = c.view-tokens.ensures in let r = c.view-tokens.result.0 in let new = c.view-tokens.new.seen.log in
     let from : IsPrefix log new = prefix_trans log c.learn.new.self.log new c.learn.ensures.2 a.seen in
     let from2 : IsPrefix log2 new = prefix_trans log2 c.learn.new.self.log new c.learn.ensures.3 a.seen in
@@ -67,7 +67,7 @@ returns-in-Some-clause-same g c =
 pub returns-in-Some-clause-later : goal.returns-in-Some-clause-later
 returns-in-Some-clause-later g c =
     let log = c.front.inside.seen.log in let log2 = c.args.seen.now.log in let mine = c.in-Some.mine in let theirs = c.args.theirs in let o = c.requires.theirs in
-    let h = taken (λ h. AreTokens g.J.Naming.tallies g.J.Naming.copy g.J.Naming.kind log h × IsOwn c.front.inside.actor h.held) c.front.inside.tokens c.take.result mine c.take.ensures.value c.in-Some.is c.front.invariant.2 in
+    let h = taken (λ h. AreTokens g.J.Naming.counters g.J.Naming.copy g.J.Naming.kind log h × AreTokensOf c.front.inside.actor h.held) c.front.inside.tokens c.take.result mine c.take.ensures.value c.in-Some.is c.front.invariant.2 in
     let a = c.view-tokens.ensures in let r = c.view-tokens.result.0 in let new = c.view-tokens.new.seen.log in
     let from : IsPrefix log new = prefix_trans log c.learn.new.self.log new c.learn.ensures.2 a.seen in
     let from2 : IsPrefix log2 new = prefix_trans log2 c.learn.new.self.log new c.learn.ensures.3 a.seen in
@@ -80,7 +80,7 @@ returns-in-Some-clause-later g c =
 pub returns-in-Some-clause-stays : goal.returns-in-Some-clause-stays
 returns-in-Some-clause-stays g c =
     let log = c.front.inside.seen.log in let log2 = c.args.seen.now.log in let mine = c.in-Some.mine in let theirs = c.args.theirs in let o = c.requires.theirs in
-    let h = taken (λ h. AreTokens g.J.Naming.tallies g.J.Naming.copy g.J.Naming.kind log h × IsOwn c.front.inside.actor h.held) c.front.inside.tokens c.take.result mine c.take.ensures.value c.in-Some.is c.front.invariant.2 in
+    let h = taken (λ h. AreTokens g.J.Naming.counters g.J.Naming.copy g.J.Naming.kind log h × AreTokensOf c.front.inside.actor h.held) c.front.inside.tokens c.take.result mine c.take.ensures.value c.in-Some.is c.front.invariant.2 in
     let a = c.view-tokens.ensures in let r = c.view-tokens.result.0 in let new = c.view-tokens.new.seen.log in
     let from : IsPrefix log new = prefix_trans log c.learn.new.self.log new c.learn.ensures.2 a.seen in
     let from2 : IsPrefix log2 new = prefix_trans log2 c.learn.new.self.log new c.learn.ensures.3 a.seen in
@@ -93,7 +93,7 @@ returns-in-Some-clause-stays g c =
 pub returns-in-Some-clause-gathers : goal.returns-in-Some-clause-gathers
 returns-in-Some-clause-gathers g c =
     let log = c.front.inside.seen.log in let log2 = c.args.seen.now.log in let mine = c.in-Some.mine in let theirs = c.args.theirs in let o = c.requires.theirs in
-    let h = taken (λ h. AreTokens g.J.Naming.tallies g.J.Naming.copy g.J.Naming.kind log h × IsOwn c.front.inside.actor h.held) c.front.inside.tokens c.take.result mine c.take.ensures.value c.in-Some.is c.front.invariant.2 in
+    let h = taken (λ h. AreTokens g.J.Naming.counters g.J.Naming.copy g.J.Naming.kind log h × AreTokensOf c.front.inside.actor h.held) c.front.inside.tokens c.take.result mine c.take.ensures.value c.in-Some.is c.front.invariant.2 in
     let a = c.view-tokens.ensures in let r = c.view-tokens.result.0 in let new = c.view-tokens.new.seen.log in
     let from : IsPrefix log new = prefix_trans log c.learn.new.self.log new c.learn.ensures.2 a.seen in
     let from2 : IsPrefix log2 new = prefix_trans log2 c.learn.new.self.log new c.learn.ensures.3 a.seen in

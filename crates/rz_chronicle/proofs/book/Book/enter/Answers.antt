@@ -5,7 +5,7 @@ use base.Growing.{prefix_trans}
 use Rattle.rz_chronicle.specs.Keys.{rows, word_key, count_at, IsLater, sids_of}
 use Rattle.rz_chronicle.specs.Kinds.{history, HavePlaces, Fits, volume_in}
 use Rattle.rz_chronicle.specs.Tokens.{counts, Agree}
-use Rattle.rz_chronicle.specs.Holds.{AreTokens, IsOwn, Stays, keys}
+use Rattle.rz_chronicle.specs.Holds.{AreTokens, AreTokensOf, Stays, keys}
 use Rattle.rz_chronicle.specs.Rules.{PassView, WordTokenView}
 use Rattle.rz_chronicle.proofs.Histories.{later, stays}
 use Rattle.rz_chronicle.proofs.TokenLaws.{taken, taken-keys, at-same-keys, own-place, tokens-made, own-after, own-same}
@@ -22,30 +22,30 @@ view_both-its-requires-clause-key g c =
 
 pub view_both-its-requires-clause-one : goal.view_both-its-requires-clause-one
 view_both-its-requires-clause-one g c =
-    let h = taken (λ h. AreTokens g.J.Naming.tallies g.J.Naming.copy g.J.Naming.kind c.pass.inside.seen.log h × IsOwn c.pass.inside.actor h.held) c.pass.inside.tokens c.take.result c.in-Some.mine c.take.ensures.value c.in-Some.is c.pass.invariant.2 in
-    let o = taken (λ h. AreTokens g.J.Naming.tallies g.J.Naming.copy g.J.Naming.kind c.word_token.inside.seen.log h × (h.held ≡ (word_key c.word_token.inside.word, c.word_token.inside.moved) ∷ [])) c.word_token.inside.tokens c.take-in-Some.result c.in-Some-take.its c.take-in-Some.ensures.value c.in-Some-take.is c.word_token.invariant.2 in
-    record { tallies = o.0.tallies_is ∙ sym h.0.tallies_is; copy = o.0.copy_is ∙ sym h.0.copy_is; kind = o.0.kind_is ∙ sym h.0.kind_is }
+    let h = taken (λ h. AreTokens g.J.Naming.counters g.J.Naming.copy g.J.Naming.kind c.pass.inside.seen.log h × AreTokensOf c.pass.inside.actor h.held) c.pass.inside.tokens c.take.result c.in-Some.mine c.take.ensures.value c.in-Some.is c.pass.invariant.2 in
+    let o = taken (λ h. AreTokens g.J.Naming.counters g.J.Naming.copy g.J.Naming.kind c.word_token.inside.seen.log h × (h.held ≡ (word_key c.word_token.inside.word, c.word_token.inside.moved) ∷ [])) c.word_token.inside.tokens c.take-in-Some.result c.in-Some-take.its c.take-in-Some.ensures.value c.in-Some-take.is c.word_token.invariant.2 in
+    record { counters = o.0.counters_is ∙ sym h.0.counters_is; copy = o.0.copy_is ∙ sym h.0.copy_is; kind = o.0.kind_is ∙ sym h.0.kind_is }
 
 pub view_both-its-requires-clause-held : goal.view_both-its-requires-clause-held
 view_both-its-requires-clause-held g c =
-    let h = taken (λ h. AreTokens g.J.Naming.tallies g.J.Naming.copy g.J.Naming.kind c.pass.inside.seen.log h × IsOwn c.pass.inside.actor h.held) c.pass.inside.tokens c.take.result c.in-Some.mine c.take.ensures.value c.in-Some.is c.pass.invariant.2 in
-    let o = taken (λ h. AreTokens g.J.Naming.tallies g.J.Naming.copy g.J.Naming.kind c.word_token.inside.seen.log h × (h.held ≡ (word_key c.word_token.inside.word, c.word_token.inside.moved) ∷ [])) c.word_token.inside.tokens c.take-in-Some.result c.in-Some-take.its c.take-in-Some.ensures.value c.in-Some-take.is c.word_token.invariant.2 in
+    let h = taken (λ h. AreTokens g.J.Naming.counters g.J.Naming.copy g.J.Naming.kind c.pass.inside.seen.log h × AreTokensOf c.pass.inside.actor h.held) c.pass.inside.tokens c.take.result c.in-Some.mine c.take.ensures.value c.in-Some.is c.pass.invariant.2 in
+    let o = taken (λ h. AreTokens g.J.Naming.counters g.J.Naming.copy g.J.Naming.kind c.word_token.inside.seen.log h × (h.held ≡ (word_key c.word_token.inside.word, c.word_token.inside.moved) ∷ [])) c.word_token.inside.tokens c.take-in-Some.result c.in-Some-take.its c.take-in-Some.ensures.value c.in-Some-take.is c.word_token.invariant.2 in
     (h.0.low, o.0.low)
 
 pub view_both-its-requires-clause-its : goal.view_both-its-requires-clause-its
 view_both-its-requires-clause-its g c =
-    let o = taken (λ h. AreTokens g.J.Naming.tallies g.J.Naming.copy g.J.Naming.kind c.word_token.inside.seen.log h × (h.held ≡ (word_key c.word_token.inside.word, c.word_token.inside.moved) ∷ [])) c.word_token.inside.tokens c.take-in-Some.result c.in-Some-take.its c.take-in-Some.ensures.value c.in-Some-take.is c.word_token.invariant.2 in
+    let o = taken (λ h. AreTokens g.J.Naming.counters g.J.Naming.copy g.J.Naming.kind c.word_token.inside.seen.log h × (h.held ≡ (word_key c.word_token.inside.word, c.word_token.inside.moved) ∷ [])) c.word_token.inside.tokens c.take-in-Some.result c.in-Some-take.its c.take-in-Some.ensures.value c.in-Some-take.is c.word_token.invariant.2 in
     o.1 ∙ ap (λ (k : ℕ). (k, c.word_token.inside.moved) ∷ []) (sym c.key_of-key.ensures.value)
 
 pub invariant_of-pass : goal.invariant_of-pass
 invariant_of-pass g c =
     let log = c.pass.inside.seen.log in let mine = c.in-Some.mine in
-    let h = taken (λ h. AreTokens g.J.Naming.tallies g.J.Naming.copy g.J.Naming.kind log h × IsOwn c.pass.inside.actor h.held) c.pass.inside.tokens c.take.result mine c.take.ensures.value c.in-Some.is c.pass.invariant.2 in
+    let h = taken (λ h. AreTokens g.J.Naming.counters g.J.Naming.copy g.J.Naming.kind log h × AreTokensOf c.pass.inside.actor h.held) c.pass.inside.tokens c.take.result mine c.take.ensures.value c.in-Some.is c.pass.invariant.2 in
     let a = c.view_both-its.ensures in let r = c.view_both-its.result.1 in let new = c.view_both-its.new.seen.log in (
       a.book.0 ∙ (c.learn.ensures.0 ∙ c.pass.invariant.0),
       a.book.1 ∙ (c.learn.ensures.1 ∙ c.pass.invariant.1),
       (
-        tokens-made g.J.Naming.tallies g.J.Naming.copy g.J.Naming.kind new mine.held r (a.one.1.tallies ∙ h.0.tallies_is) (a.one.1.copy ∙ h.0.copy_is) (a.one.1.kind ∙ h.0.kind_is) a.mine.0 a.mine.1 h.0.low,
+        tokens-made g.J.Naming.counters g.J.Naming.copy g.J.Naming.kind new mine.held r (a.one.1.counters ∙ h.0.counters_is) (a.one.1.copy ∙ h.0.copy_is) (a.one.1.kind ∙ h.0.kind_is) a.mine.0 a.mine.1 h.0.low,
         own-after c.pass.inside.actor (λ k. count_at k new) mine.held r.held a.mine.0 h.1,
       ),
       c.pass.invariant.3 ∙ own-same c.pass.inside.actor mine.held log new h.0.right a.agree.0 h.1,
@@ -72,7 +72,7 @@ returns-in-Some-take-clause-later g c =
 pub returns-in-Some-take-clause-stays : goal.returns-in-Some-take-clause-stays
 returns-in-Some-take-clause-stays g c =
     let log = c.pass.inside.seen.log in let mine = c.in-Some.mine in
-    let h = taken (λ h. AreTokens g.J.Naming.tallies g.J.Naming.copy g.J.Naming.kind log h × IsOwn c.pass.inside.actor h.held) c.pass.inside.tokens c.take.result mine c.take.ensures.value c.in-Some.is c.pass.invariant.2 in
+    let h = taken (λ h. AreTokens g.J.Naming.counters g.J.Naming.copy g.J.Naming.kind log h × AreTokensOf c.pass.inside.actor h.held) c.pass.inside.tokens c.take.result mine c.take.ensures.value c.in-Some.is c.pass.invariant.2 in
     let a = c.view_both-its.ensures in let new = c.view_both-its.new.seen.log in
     let from : IsPrefix log new = prefix_trans log c.learn.new.self.log new c.learn.ensures.2 a.seen in
     let ks = sym (taken-keys c.pass.inside.tokens c.take.result mine c.take.ensures.value c.in-Some.is) in
@@ -81,7 +81,7 @@ returns-in-Some-take-clause-stays g c =
 pub returns-in-Some-take-clause-serves : goal.returns-in-Some-take-clause-serves
 returns-in-Some-take-clause-serves g c =
     let log2 = c.word_token.inside.seen.log in let its = c.in-Some-take.its in
-    let o = taken (λ h. AreTokens g.J.Naming.tallies g.J.Naming.copy g.J.Naming.kind log2 h × (h.held ≡ (word_key c.word_token.inside.word, c.word_token.inside.moved) ∷ [])) c.word_token.inside.tokens c.take-in-Some.result its c.take-in-Some.ensures.value c.in-Some-take.is c.word_token.invariant.2 in
+    let o = taken (λ h. AreTokens g.J.Naming.counters g.J.Naming.copy g.J.Naming.kind log2 h × (h.held ≡ (word_key c.word_token.inside.word, c.word_token.inside.moved) ∷ [])) c.word_token.inside.tokens c.take-in-Some.result its c.take-in-Some.ensures.value c.in-Some-take.is c.word_token.invariant.2 in
     let a = c.view_both-its.ensures in let new = c.view_both-its.new.seen.log in
     let from : IsPrefix log2 new = prefix_trans log2 c.learn.new.self.log new c.learn.ensures.3 a.seen in
     let n : count_at (word_key c.word_token.inside.word) new ≡ c.word_token.inside.moved = subst (λ (k : ℕ). count_at k new ≡ c.word_token.inside.moved) c.key_of-key.ensures.value a.agree.1 in

@@ -5,7 +5,7 @@ use Rattle.logbook.specs.Pages.{Named}
 use Rattle.rz_chronicle.specs.Keys.{IsMember, word_key, count_at, rows, sids_of}
 use Rattle.rz_chronicle.specs.Kinds.{HasPlace, HavePlaces, MayFit, Fits, history, volume_in}
 use Rattle.rz_chronicle.specs.Tokens.{IsHolding}
-use Rattle.rz_chronicle.specs.Holds.{AreTokens, IsOwn, Commits, keys}
+use Rattle.rz_chronicle.specs.Holds.{AreTokens, AreTokensOf, Commits, keys}
 use Rattle.rz_chronicle.specs.Rules.{PassView}
 use Rattle.rz_chronicle.proofs.TokenLaws.{taken, taken-keys, at-same-keys, tokens-right, tokens-may, tokens-after, own-place, member-low, own-after, committed, moved-on, covers, has-own}
 use Rattle.rz_chronicle.proofs.book.Book.finish.Goals as goal
@@ -24,21 +24,21 @@ append-tokens-requires-clause-word g c =
 pub append-tokens-requires-clause-held : goal.append-tokens-requires-clause-held
 append-tokens-requires-clause-held g c =
     let log = c.pass.inside.seen.log in
-    let h = taken (λ h. AreTokens g.J.Naming.tallies g.J.Naming.copy g.J.Naming.kind log h × IsOwn c.pass.inside.actor h.held) c.pass.inside.tokens c.take.result c.in-Some.tokens c.take.ensures.value c.in-Some.is c.pass.invariant.2 in
+    let h = taken (λ h. AreTokens g.J.Naming.counters g.J.Naming.copy g.J.Naming.kind log h × AreTokensOf c.pass.inside.actor h.held) c.pass.inside.tokens c.take.result c.in-Some.tokens c.take.ensures.value c.in-Some.is c.pass.invariant.2 in
     let who : c.pass.inside.actor ≡ c.args.pass.now.actor = ap (λ (v : PassView). v.actor) c.pass.view_is in
-    (tokens-right g.J.Naming.tallies g.J.Naming.copy g.J.Naming.kind log c.in-Some.tokens h.0, covers c.pass.inside.actor c.in-Some.tokens.held c.args.event.now (c.requires.word ∙ ap Own (sym who)) (c.requires.actor ∙ sym who) h.1)
+    (tokens-right g.J.Naming.counters g.J.Naming.copy g.J.Naming.kind log c.in-Some.tokens h.0, covers c.pass.inside.actor c.in-Some.tokens.held c.args.event.now (c.requires.word ∙ ap Own (sym who)) (c.requires.actor ∙ sym who) h.1)
 
 pub append-tokens-requires-clause-legal : goal.append-tokens-requires-clause-legal
 append-tokens-requires-clause-legal g c =
     let log = c.pass.inside.seen.log in
-    let h = taken (λ h. AreTokens g.J.Naming.tallies g.J.Naming.copy g.J.Naming.kind log h × IsOwn c.pass.inside.actor h.held) c.pass.inside.tokens c.take.result c.in-Some.tokens c.take.ensures.value c.in-Some.is c.pass.invariant.2 in
+    let h = taken (λ h. AreTokens g.J.Naming.counters g.J.Naming.copy g.J.Naming.kind log h × AreTokensOf c.pass.inside.actor h.held) c.pass.inside.tokens c.take.result c.in-Some.tokens c.take.ensures.value c.in-Some.is c.pass.invariant.2 in
     let may : MayFit g.J.Naming.kind (history log) c.args.event.now = subst (λ (v : PassView). MayFit g.J.Naming.kind v.log c.args.event.now) (sym c.pass.view_is) (c.requires.legal, c.requires.after) in
-    tokens-may g.J.Naming.tallies g.J.Naming.copy g.J.Naming.kind log c.args.event.now c.in-Some.tokens h.0 may
+    tokens-may g.J.Naming.counters g.J.Naming.copy g.J.Naming.kind log c.args.event.now c.in-Some.tokens h.0 may
 
 pub append-tokens-requires-clause-place : goal.append-tokens-requires-clause-place
 append-tokens-requires-clause-place g c =
     let log = c.pass.inside.seen.log in let sids = sids_of (volume_in g.J.Naming.kind) in
-    let h = taken (λ h. AreTokens g.J.Naming.tallies g.J.Naming.copy g.J.Naming.kind log h × IsOwn c.pass.inside.actor h.held) c.pass.inside.tokens c.take.result c.in-Some.tokens c.take.ensures.value c.in-Some.is c.pass.invariant.2 in
+    let h = taken (λ h. AreTokens g.J.Naming.counters g.J.Naming.copy g.J.Naming.kind log h × AreTokensOf c.pass.inside.actor h.held) c.pass.inside.tokens c.take.result c.in-Some.tokens c.take.ensures.value c.in-Some.is c.pass.invariant.2 in
     let who : c.pass.inside.actor ≡ c.args.pass.now.actor = ap (λ (v : PassView). v.actor) c.pass.view_is in
     let at-word : Own c.pass.inside.actor ≡ word_of c.args.event.now = sym (c.requires.word ∙ ap Own (sym who)) in
     subst (λ (k : List ℕ). HasPlace k c.args.event.now) (sym h.0.kind_is) (record {
@@ -51,14 +51,14 @@ append-tokens-requires-clause-place g c =
 pub append-tokens-requires-clause-count : goal.append-tokens-requires-clause-count
 append-tokens-requires-clause-count g c =
     let log = c.pass.inside.seen.log in
-    let h = taken (λ h. AreTokens g.J.Naming.tallies g.J.Naming.copy g.J.Naming.kind log h × IsOwn c.pass.inside.actor h.held) c.pass.inside.tokens c.take.result c.in-Some.tokens c.take.ensures.value c.in-Some.is c.pass.invariant.2 in
+    let h = taken (λ h. AreTokens g.J.Naming.counters g.J.Naming.copy g.J.Naming.kind log h × AreTokensOf c.pass.inside.actor h.held) c.pass.inside.tokens c.take.result c.in-Some.tokens c.take.ensures.value c.in-Some.is c.pass.invariant.2 in
     let who : c.pass.inside.actor ≡ c.args.pass.now.actor = ap (λ (v : PassView). v.actor) c.pass.view_is in
     has-own c.pass.inside.actor c.in-Some.tokens.held log c.args.event.now c.pass.inside.moved (c.requires.word ∙ ap Own (sym who)) h.0.right h.1 c.pass.invariant.3
 
 pub invariant_of-pass : goal.invariant_of-pass
 invariant_of-pass g c =
     let log = c.pass.inside.seen.log in let new = c.append-tokens.new.seen.log in
-    let h = taken (λ h. AreTokens g.J.Naming.tallies g.J.Naming.copy g.J.Naming.kind log h × IsOwn c.pass.inside.actor h.held) c.pass.inside.tokens c.take.result c.in-Some.tokens c.take.ensures.value c.in-Some.is c.pass.invariant.2 in
+    let h = taken (λ h. AreTokens g.J.Naming.counters g.J.Naming.copy g.J.Naming.kind log h × AreTokensOf c.pass.inside.actor h.held) c.pass.inside.tokens c.take.result c.in-Some.tokens c.take.ensures.value c.in-Some.is c.pass.invariant.2 in
     let who : c.pass.inside.actor ≡ c.args.pass.now.actor = ap (λ (v : PassView). v.actor) c.pass.view_is in
     let at-word : word_of c.args.event.now ≡ Own c.pass.inside.actor = c.requires.word ∙ ap Own (sym who) in
     let a = c.append-tokens.ensures in
@@ -67,7 +67,7 @@ invariant_of-pass g c =
       a.book.0 ∙ c.pass.invariant.0,
       a.book.1 ∙ c.pass.invariant.1,
       (
-        tokens-after g.J.Naming.tallies g.J.Naming.copy g.J.Naming.kind log new c.in-Some.tokens c.append-tokens.result h.0 a.tokens.0 a.tokens.1 a.tokens.2 a.held.0 a.held.1,
+        tokens-after g.J.Naming.counters g.J.Naming.copy g.J.Naming.kind log new c.in-Some.tokens c.append-tokens.result h.0 a.tokens.0 a.tokens.1 a.tokens.2 a.held.0 a.held.1,
         own-after c.pass.inside.actor (λ k. count_at k new) c.in-Some.tokens.held c.append-tokens.result.held a.held.0 h.1,
       ),
       moved-on c.in-Some.tokens.held log new c.args.event.now c.pass.inside.moved h.0.right has from a.ends ∙ ap (λ w. count_at (word_key w) new) at-word,
@@ -87,7 +87,7 @@ returns-in-Some-clause-same g c =
 pub returns-in-Some-clause-commits : goal.returns-in-Some-clause-commits
 returns-in-Some-clause-commits g c =
     let log = c.pass.inside.seen.log in let new = c.append-tokens.new.seen.log in
-    let h = taken (λ h. AreTokens g.J.Naming.tallies g.J.Naming.copy g.J.Naming.kind log h × IsOwn c.pass.inside.actor h.held) c.pass.inside.tokens c.take.result c.in-Some.tokens c.take.ensures.value c.in-Some.is c.pass.invariant.2 in
+    let h = taken (λ h. AreTokens g.J.Naming.counters g.J.Naming.copy g.J.Naming.kind log h × AreTokensOf c.pass.inside.actor h.held) c.pass.inside.tokens c.take.result c.in-Some.tokens c.take.ensures.value c.in-Some.is c.pass.invariant.2 in
     let ks = sym (taken-keys c.pass.inside.tokens c.take.result c.in-Some.tokens c.take.ensures.value c.in-Some.is) in
     let made = committed c.in-Some.tokens.held log new c.args.event.now h.0.right c.append-tokens.ensures.ends in
     subst (λ (v : PassView). Commits v.keys v.log c.args.event.now (history new)) c.pass.view_is (subst (λ (k : List ℕ). Commits k (history log) c.args.event.now (history new)) ks made)

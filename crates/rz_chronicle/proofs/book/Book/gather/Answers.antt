@@ -1,13 +1,13 @@
 use Rattle.std.proofs.Common.{◌≡◌, ◌++◌, List, ℕ, refl, sym, ap, subst, ◌∙◌}
 use Rattle.rz_chronicle.specs.Keys.{IsLater}
-use Rattle.rz_chronicle.specs.Holds.{AreTokens, IsOwn, Stays, keys}
+use Rattle.rz_chronicle.specs.Holds.{AreTokens, AreTokensOf, Stays, keys}
 use Rattle.rz_chronicle.specs.Rules.{PassView}
 use Rattle.rz_chronicle.proofs.TokenLaws.{taken, taken-keys}
 use Rattle.rz_chronicle.proofs.book.Book.gather.Goals as goal
 
 pub absorb-requires-clause-theirs : goal.absorb-requires-clause-theirs
 absorb-requires-clause-theirs g c =
-    (taken (λ h. AreTokens g.J.Naming.tallies g.J.Naming.copy g.J.Naming.kind c.other.inside.seen.log h × IsOwn c.other.inside.actor h.held) c.other.inside.tokens c.other.inside.tokens c.in-Some.theirs refl c.in-Some.is c.other.invariant.2).0
+    (taken (λ h. AreTokens g.J.Naming.counters g.J.Naming.copy g.J.Naming.kind c.other.inside.seen.log h × AreTokensOf c.other.inside.actor h.held) c.other.inside.tokens c.other.inside.tokens c.in-Some.theirs refl c.in-Some.is c.other.invariant.2).0
 
 pub returns-in-Some-clause-same : goal.returns-in-Some-clause-same
 returns-in-Some-clause-same g c =

@@ -5,7 +5,7 @@ use base.Growing.{prefix_trans}
 use Rattle.rz_events.specs.declared.events.Word.TheVariants.{Own}
 use Rattle.rz_chronicle.specs.Keys.{rows, count_at, IsLater, sids_of}
 use Rattle.rz_chronicle.specs.Kinds.{history, HavePlaces, Fits, volume_in}
-use Rattle.rz_chronicle.specs.Holds.{AreTokens, IsOwn, Stays, keys}
+use Rattle.rz_chronicle.specs.Holds.{AreTokens, AreTokensOf, Stays, keys}
 use Rattle.rz_chronicle.specs.Rules.{PassView}
 use Rattle.rz_chronicle.proofs.Histories.{later, stays}
 use Rattle.rz_chronicle.proofs.TokenLaws.{taken, taken-keys, at-same-keys, own-place, member-low, tokens-made, own-after, own-same}
@@ -22,13 +22,13 @@ view-tokens-requires-clause-key g c = (Own c.pass.inside.actor, ap (λ (n : Name
 pub invariant_of-pass : goal.invariant_of-pass
 invariant_of-pass g c =
     let log = c.pass.inside.seen.log in
-    let h = taken (λ h. AreTokens g.J.Naming.tallies g.J.Naming.copy g.J.Naming.kind log h × IsOwn c.pass.inside.actor h.held) c.pass.inside.tokens c.take.result c.in-Some.tokens c.take.ensures.value c.in-Some.is c.pass.invariant.2 in
+    let h = taken (λ h. AreTokens g.J.Naming.counters g.J.Naming.copy g.J.Naming.kind log h × AreTokensOf c.pass.inside.actor h.held) c.pass.inside.tokens c.take.result c.in-Some.tokens c.take.ensures.value c.in-Some.is c.pass.invariant.2 in
     let mine = c.in-Some.tokens in let a = c.view-tokens.ensures in let r = c.view-tokens.result.0 in let new = c.view-tokens.new.seen.log in
     let from : IsPrefix log new = prefix_trans log c.learn.new.self.log new c.learn.ensures.2 a.seen in (
       a.book.0 ∙ (c.learn.ensures.0 ∙ c.pass.invariant.0),
       a.book.1 ∙ (c.learn.ensures.1 ∙ c.pass.invariant.1),
       (
-        tokens-made g.J.Naming.tallies g.J.Naming.copy g.J.Naming.kind new mine.held r (a.tokens.0 ∙ h.0.tallies_is) (a.tokens.1 ∙ h.0.copy_is) (a.tokens.2 ∙ h.0.kind_is) a.held.0 a.held.1 h.0.low,
+        tokens-made g.J.Naming.counters g.J.Naming.copy g.J.Naming.kind new mine.held r (a.tokens.0 ∙ h.0.counters_is) (a.tokens.1 ∙ h.0.copy_is) (a.tokens.2 ∙ h.0.kind_is) a.held.0 a.held.1 h.0.low,
         own-after c.pass.inside.actor (λ k. count_at k new) mine.held r.held a.held.0 h.1,
       ),
       c.pass.invariant.3 ∙ own-same c.pass.inside.actor mine.held log new h.0.right a.agree h.1,
@@ -47,7 +47,7 @@ returns-in-Some-clause-same g c = (
 pub returns-in-Some-clause-later : goal.returns-in-Some-clause-later
 returns-in-Some-clause-later g c =
     let log = c.pass.inside.seen.log in
-    let h = taken (λ h. AreTokens g.J.Naming.tallies g.J.Naming.copy g.J.Naming.kind log h × IsOwn c.pass.inside.actor h.held) c.pass.inside.tokens c.take.result c.in-Some.tokens c.take.ensures.value c.in-Some.is c.pass.invariant.2 in
+    let h = taken (λ h. AreTokens g.J.Naming.counters g.J.Naming.copy g.J.Naming.kind log h × AreTokensOf c.pass.inside.actor h.held) c.pass.inside.tokens c.take.result c.in-Some.tokens c.take.ensures.value c.in-Some.is c.pass.invariant.2 in
     let mine = c.in-Some.tokens in let a = c.view-tokens.ensures in let r = c.view-tokens.result.0 in let new = c.view-tokens.new.seen.log in
     let from : IsPrefix log new = prefix_trans log c.learn.new.self.log new c.learn.ensures.2 a.seen in (
       subst (λ (v : PassView). IsLater v.log (history new)) c.pass.view_is (later log new from),
@@ -57,7 +57,7 @@ returns-in-Some-clause-later g c =
 pub returns-in-Some-clause-stays : goal.returns-in-Some-clause-stays
 returns-in-Some-clause-stays g c =
     let log = c.pass.inside.seen.log in
-    let h = taken (λ h. AreTokens g.J.Naming.tallies g.J.Naming.copy g.J.Naming.kind log h × IsOwn c.pass.inside.actor h.held) c.pass.inside.tokens c.take.result c.in-Some.tokens c.take.ensures.value c.in-Some.is c.pass.invariant.2 in
+    let h = taken (λ h. AreTokens g.J.Naming.counters g.J.Naming.copy g.J.Naming.kind log h × AreTokensOf c.pass.inside.actor h.held) c.pass.inside.tokens c.take.result c.in-Some.tokens c.take.ensures.value c.in-Some.is c.pass.invariant.2 in
     let mine = c.in-Some.tokens in let a = c.view-tokens.ensures in let r = c.view-tokens.result.0 in let new = c.view-tokens.new.seen.log in
     let from : IsPrefix log new = prefix_trans log c.learn.new.self.log new c.learn.ensures.2 a.seen in
     let ks = sym (taken-keys c.pass.inside.tokens c.take.result mine c.take.ensures.value c.in-Some.is) in

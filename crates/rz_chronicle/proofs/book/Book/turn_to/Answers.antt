@@ -26,7 +26,7 @@ invariant_of-pass g c =
     ∙ count_history (word_key (Own c.args.actor)) c.pass.inside.seen.log in (
       i.0,
       i.1,
-      own-other n.tallies n.copy n.kind c.pass.inside.seen.log c.pass.inside.actor c.args.actor c.pass.inside.tokens i.2
+      own-other n.counters n.copy n.kind c.pass.inside.seen.log c.pass.inside.actor c.args.actor c.pass.inside.tokens i.2
           (subst (IsOneOf (word_key (Own c.args.actor))) keys c.requires.held.0)
           (subst (IsOneOf (actor_key c.args.actor)) keys c.requires.held.1),
       moved,

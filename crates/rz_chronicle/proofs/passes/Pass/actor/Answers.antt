@@ -8,9 +8,9 @@ use Rattle.rz_chronicle.proofs.passes.Pass.actor.Goals as goal
 pub returns-clause-own : goal.returns-clause-own
 returns-clause-own g c =
     subst (λ (v : PassView). IsOneOf (actor_key v.actor) v.keys) c.self.view_is
-    (own-key g.J.Naming.tallies g.J.Naming.copy g.J.Naming.kind c.self.inside.actor c.self.inside.seen.log c.self.inside.tokens c.self.invariant.2)
+    (own-key g.J.Naming.counters g.J.Naming.copy g.J.Naming.kind c.self.inside.actor c.self.inside.seen.log c.self.inside.tokens c.self.invariant.2)
 
 pub returns-clause-word : goal.returns-clause-word
 returns-clause-word g c =
     subst (λ (v : PassView). IsOneOf (word_key (Own v.actor)) v.keys) c.self.view_is
-    (own-word g.J.Naming.tallies g.J.Naming.copy g.J.Naming.kind c.self.inside.actor c.self.inside.seen.log c.self.inside.tokens c.self.invariant.2)
+    (own-word g.J.Naming.counters g.J.Naming.copy g.J.Naming.kind c.self.inside.actor c.self.inside.seen.log c.self.inside.tokens c.self.invariant.2)

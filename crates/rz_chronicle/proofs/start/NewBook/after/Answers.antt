@@ -6,7 +6,7 @@ use Rattle.rz_events.specs.declared.files.NodeSpec.{NodeSpec}
 use Rattle.rz_events.specs.Volume.{Cluster, Volume, nodes_of}
 use Rattle.rz_chronicle.specs.Keys.{sids_of}
 use Rattle.rz_chronicle.specs.Kinds.{volume_in, kind_of, with_earlier, Fits}
-use Rattle.rz_chronicle.specs.Rules.{AreWords}
+use Rattle.rz_chronicle.specs.Rules.{AreBookWords}
 use Rattle.rz_chronicle.specs.Dealing.{AreFresh}
 use Rattle.rz_chronicle.proofs.Trades.{kept_keyless}
 use Rattle.rz_chronicle.proofs.Numbers.{fits-first}
@@ -26,7 +26,7 @@ invariant_of-result-clause-long g c =
 
 pub invariant_of-result-clause-are : goal.invariant_of-result-clause-are
 invariant_of-result-clause-are g c =
-    subst (λ (ns : List ℕ). AreWords c.open_row-seen.result.0.book ns c.in_ok-words.words.items) c.as_slice-2.ensures.value
+    subst (λ (ns : List ℕ). AreBookWords c.open_row-seen.result.0.book ns c.in_ok-words.words.items) c.as_slice-2.ensures.value
     (c.in_ok-words.ensures c.open_row-seen.result.0.book (subst (λ (b : Book). AreFresh b c.in_ok-pens.pens.items) c.open_row-seen.ensures.2 c.in_ok-pens.ensures.1)).1
 
 pub invariant_of-result-clause-few : goal.invariant_of-result-clause-few

@@ -50,4 +50,4 @@ back_spec 𝓤 𝓛 𝓜 𝓡 wired =
     enter ! 𝓣.C 𝓣.Λ fn (token ∷ []) WordToken $ alloc_all ! (λ l. pass_all ! refl ((tt, (tt, tt)), tt) $
     use0 𝓛 (‵ ((Token unit).own_val (record {}, tt) (token ∷ []))) (token_made unit 𝓛) $ fjoin ! $ sets ! (agg ! (no_more !)) refl (tt, tt) $ sets ! (agg ! (and_then ! (get ! refl) (no_more !))) refl (tt, (tt, tt)) $
     nothing ! $ nothing ! $ fjoin ! $
-    returns ! (look_at ! 0 refl) $ free_all ! refl $ keep ! (2 ∷ 0 ∷ 1 ∷ []) $ by ! (ends 𝓛 ended hs c y token (record { marker = record {}; tallies = asked.0.0; copy = asked.0.1.0; kind = asked.0.1.1; held = at (counts g.answer.log) (held_in g.about); log = g.answer.log }) (tt, tt) (tt, tt) (fact_i 𝓤 _ (emp 𝓤) (sym asked.1, refl, refl, moved.0, moved.1.0, moved.2, moved.1.1)))))))
+    returns ! (look_at ! 0 refl) $ free_all ! refl $ keep ! (2 ∷ 0 ∷ 1 ∷ []) $ by ! (ends 𝓛 ended hs c y token (record { marker = record {}; counters = asked.0.0; copy = asked.0.1.0; kind = asked.0.1.1; held = at (counts g.answer.log) (held_in g.about); log = g.answer.log }) (tt, tt) (tt, tt) (fact_i 𝓤 _ (emp 𝓤) (sym asked.1, refl, refl, moved.0, moved.1.0, moved.2, moved.1.1)))))))

@@ -50,7 +50,7 @@ join_spec 𝓤 𝓛 𝓜 𝓡 wired =
     -- the other's value and tokens, the rest, the own value and tokens, the rest
     keep ! (4 ∷ 1 ∷ 5 ∷ []) $
     enter ! 𝓣.C 𝓣.Λ fn (token ∷ token ∷ []) WordToken $ alloc_all ! (λ l. pass_all ! refl ((tt, (tt, tt)), ((tt, (tt, tt)), tt)) $
-    use2 𝓛 (‵ (tokens_own me.tallies me.copy (me.held ++ other.held) me.log)) (both 𝓛 me.tallies me.copy other.tallies other.copy me.held other.held me.log other.log asked.0) $
+    use2 𝓛 (‵ (tokens_own me.counters me.copy (me.held ++ other.held) me.log)) (both 𝓛 me.counters me.copy other.counters other.copy me.held other.held me.log other.log asked.0) $
     use0 𝓛 (‵ ((Token unit).own_val (record {}, tt) (token ∷ []))) (token_made unit 𝓛) $ fjoin ! $ sets ! (agg ! (no_more !)) refl (tt, tt) $ sets ! (agg ! (and_then ! (get ! refl) (no_more !))) refl (tt, (tt, tt)) $
     nothing ! $ nothing ! $ fjoin ! $ nothing ! $ fjoin ! $
-    returns ! (look_at ! 0 refl) $ free_all ! refl $ keep ! (2 ∷ 0 ∷ 1 ∷ []) $ by ! (ends 𝓛 ended hs c y token (record { marker = record {}; tallies = me.tallies; copy = me.copy; kind = me.kind; held = me.held ++ other.held; log = me.log }) (tt, (tt, tt)) (tt, (tt, tt)) (fact_i 𝓤 _ (emp 𝓤) (refl, refl, refl, refl, refl))))))
+    returns ! (look_at ! 0 refl) $ free_all ! refl $ keep ! (2 ∷ 0 ∷ 1 ∷ []) $ by ! (ends 𝓛 ended hs c y token (record { marker = record {}; counters = me.counters; copy = me.copy; kind = me.kind; held = me.held ++ other.held; log = me.log }) (tt, (tt, tt)) (tt, (tt, tt)) (fact_i 𝓤 _ (emp 𝓤) (refl, refl, refl, refl, refl))))))

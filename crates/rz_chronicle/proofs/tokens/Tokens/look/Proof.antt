@@ -50,10 +50,10 @@ look_spec 𝓤 𝓛 𝓜 𝓡 wired =
     let y : (walk_of 𝓛 ended hs c).Ghost = ((κs, qs, bounds, a, (token ∷ [], tt)), gh) in let WordToken : Val → SProp 𝓤 = (walk_of 𝓛 ended hs c).post y in
     qed 𝓛 ((‵ ftrue ⊛ ‵ (owns (types_at ended.signature.params κs) a y.0.4)) ∷ given _ (‵ ftrue) ∷ []) ∵ move ! (1 ∷ []) $ learn ! (λ asked. drop ! $ split ! $
     move ! (1 ∷ []) $ fsplit ! $ fsplit ! $ keep ! (1 ∷ 3 ∷ []) $
-    let about = notes me.held in let names : List ℕ = me.tallies ∷ me.copy ∷ me.kind in let answer = λ (r : Told.the_row.Denot). gained names (held_in about) r.before r.log in
-    let mine : ent 𝓤 (sem 𝓛 (tokens_own me.tallies me.copy me.held me.log)) (sem 𝓛 (offer_owns (kept names) (IsMove mark) answer None)) =
-    subst (λ (hs : List (ℕ × ℕ)). ent 𝓤 (sem 𝓛 (tokens_own me.tallies me.copy me.held me.log)) (sem 𝓛 (offer_owns (kept names) (IsMove mark) (λ (r : Told.the_row.Denot). gained names hs r.before r.log) None))) (sym (notes-back me.held))
-    (trades.offers 𝓛 me.tallies me.copy me.kind me.held me.log mark asked (λ low. absurd (mark-out low))) in
+    let about = notes me.held in let names : List ℕ = me.counters ∷ me.copy ∷ me.kind in let answer = λ (r : Told.the_row.Denot). gained names (held_in about) r.before r.log in
+    let mine : ent 𝓤 (sem 𝓛 (tokens_own me.counters me.copy me.held me.log)) (sem 𝓛 (offer_owns (kept names) (IsMove mark) answer None)) =
+    subst (λ (hs : List (ℕ × ℕ)). ent 𝓤 (sem 𝓛 (tokens_own me.counters me.copy me.held me.log)) (sem 𝓛 (offer_owns (kept names) (IsMove mark) (λ (r : Told.the_row.Denot). gained names hs r.before r.log) None))) (sym (notes-back me.held))
+    (trades.offers 𝓛 me.counters me.copy me.kind me.held me.log mark asked (λ low. absurd (mark-out low))) in
     enter ! 𝓣.C 𝓣.Λ fn (token ∷ []) WordToken $ alloc_all ! (λ l. pass_all ! refl ((tt, (tt, tt)), tt) $
     use1 𝓛 (‵ (offer_owns (kept names) (IsMove mark) answer None)) mine $
     use0 𝓛 (‵ ((Token All).own_val (record {}, tt) (token ∷ []))) (token_made All 𝓛) $ fjoin ! $ sets ! (agg ! (no_more !)) refl (tt, tt) $ sets ! (agg ! (and_then ! (get ! refl) (no_more !))) refl (tt, (tt, tt)) $

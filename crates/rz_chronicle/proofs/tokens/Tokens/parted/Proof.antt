@@ -55,12 +55,12 @@ parted_spec 𝓤 𝓛 𝓜 𝓡 wired =
     move ! (1 ∷ []) $ fsplit ! $ fsplit ! $ keep ! (1 ∷ 3 ∷ []) $
     let one : List (ℕ × ℕ) = (key, count_in key me.held) ∷ [] in let rest : List (ℕ × ℕ) = without key me.held in
     enter ! 𝓣.C 𝓣.Λ fn (token ∷ vint w64 a.1.0 ∷ []) WordToken $ alloc_all ! (λ l. pass_all ! refl ((tt, (tt, tt)), ((tt, record { fits = are.1.0.1 }), tt)) $
-    use1 𝓛 (‵ (tokens_own me.tallies me.copy one me.log) ⊛ ‵ (tokens_own me.tallies me.copy rest me.log)) (cut 𝓛 me.tallies me.copy key me.held me.log asked) $ split ! $
+    use1 𝓛 (‵ (tokens_own me.counters me.copy one me.log) ⊛ ‵ (tokens_own me.counters me.copy rest me.log)) (cut 𝓛 me.counters me.copy key me.held me.log asked) $ split ! $
     sets ! (agg ! (no_more !)) refl (tt, tt) $ sets ! (agg ! (and_then ! (get ! refl) (no_more !))) refl (tt, (tt, tt)) $ sets ! (agg ! (no_more !)) refl (tt, tt) $ sets ! (agg ! (and_then ! (get ! refl) (no_more !))) refl (tt, (tt, tt)) $
     sets ! (agg ! (and_then ! (get ! refl) (and_then ! (get ! refl) (no_more !)))) refl (tt, ((tt, tt), ((tt, tt), tt))) $
     use0 𝓛 (‵ ((Token unit).own_val (record {}, tt) (token ∷ []))) (token_made unit 𝓛) $ fjoin ! $ move ! (1 ∷ []) $ use0 𝓛 (‵ ((Token unit).own_val (record {}, tt) (token ∷ []))) (token_made unit 𝓛) $ fjoin ! $ nothing ! $ move ! (2 ∷ 1 ∷ 0 ∷ []) $ fjoin3 ! $
     let v : Val = vstruct (vcons token (vcons token vnil)) in let Rs : List RattleType = Ts ∷ Ts ∷ [] in
-    let s : Ts.Denot = record { marker = record {}; tallies = me.tallies; copy = me.copy; kind = me.kind; held = one; log = me.log } in let p : Ts.Denot = record { marker = record {}; tallies = me.tallies; copy = me.copy; kind = me.kind; held = rest; log = me.log } in
+    let s : Ts.Denot = record { marker = record {}; counters = me.counters; copy = me.copy; kind = me.kind; held = one; log = me.log } in let p : Ts.Denot = record { marker = record {}; counters = me.counters; copy = me.copy; kind = me.kind; held = rest; log = me.log } in
     feq_i ! (List Val) (v ∷ []) (v ∷ []) refl $ fjoin ! $ fpack ! (Valss Rs) (λ vss. fsep (feq (List Val) (v ∷ []) (vstruct (of_list (vss.0 ++ (vss.1.0 ++ []))) ∷ [])) (owns Rs (s, (p, tt)) vss)) (token ∷ [], (token ∷ [], tt)) $
     nothing ! $ nothing ! $ fjoin ! $ nothing ! $ fjoin ! $
     returns ! (look_at ! 0 refl) $ free_all ! refl $ keep ! (2 ∷ 0 ∷ 1 ∷ []) $ by ! (ends 𝓛 ended hs c y v (s, p) (tt, (tt, tt)) (tt, (tt, tt)) (fact_i 𝓤 _ (emp 𝓤) (refl, refl, refl, refl, refl, refl, refl, refl, refl, refl))))))

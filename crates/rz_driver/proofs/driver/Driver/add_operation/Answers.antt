@@ -8,16 +8,16 @@ use Rattle.rz_play.specs.World.{World}
 use Rattle.rz_play.specs.Lines.{with_operation}
 use Rattle.rz_player.specs.Behind.{behind}
 use Rattle.rz_script.specs.declared.line.Line.TheVariants as line
-use Rattle.rz_driver_actors.specs.declared.agenda.Agenda.{Agenda}
+use Rattle.rz_driver_actors.specs.declared.actor_agenda.Agenda.{Agenda}
 use Rattle.rz_driver_asks.specs.Locking.{lock_of}
 use Rattle.rz_driver_actors.specs.Agendas.{IsAgenda, HasLayout, work_in, agenda_of}
 use Rattle.rz_driver.specs.Worlds.{place_of, world, world_of}
 use Rattle.rz_driver_nodes.proofs.Rows.{all-at}
 use Rattle.rz_driver.proofs.OrderLemmas.{ordered, still-ready, all-more}
 use Rattle.rz_driver.proofs.ActorOrders.{place-low, operation-fits}
-use Rattle.rz_driver.proofs.DriverPictures.{actor-picture, works-with, still-counted, still-right}
+use Rattle.rz_driver.proofs.DriverCoherence.{actor-coherence, works-with, still-counted, still-right}
 use Rattle.rz_driver.proofs.JournalLemmas.{journal-stays, journal-still}
-use Rattle.rz_driver_nodes.proofs.PictureLemmas.{on-err}
+use Rattle.rz_driver_nodes.proofs.CoherenceLemmas.{on-err}
 use Rattle.rz_driver.proofs.driver.Driver.add_operation.Goals as goal
 
 added : (s b : Agenda) (op : Operation) → b.todo.items ≡ s.todo.items ++ op ∷ [] → b.number ≡ s.number → b.machine ≡ s.machine → b.lock ≡ s.lock → b.miss ≡ s.miss → agenda_of b ≡ with_operation (agenda_of s) op
@@ -67,7 +67,7 @@ returns-clause-held g c = λ b met.
     let low : c.in-Some.place < length d.agendas.items = omega (arith, row, count) in
     let here : slice_get d.agendas.items c.in-Some.place ≡ Some s = slice_get_read d.agendas.items (length d.agendas.items) c.in-Some.place s refl low c.index_mut.ensures.value in (
       met.0,
-      actor-picture d b.log c.in-Some.place s agenda d.turns here c.in_ok-add.ensures.machine
+      actor-coherence d b.log c.in-Some.place s agenda d.turns here c.in_ok-add.ensures.machine
           (λ a. ap (λ (w : World). (w.agendas a).work) (returns-clause-played g c) ∙ works-with (world_of d) c.args.by (with_operation ((world_of d).agendas c.args.by) c.args.op.now) refl a) (λ rules fine.
           c.lined.ensures d.volume rules b.log (line.Op c.args.by c.args.op.now) c.requires.line (behind b.log (world_of d)) (behind b.log (world d.shared (set d.agendas.items c.in-Some.place agenda) d.turns)) (ap (behind b.log) (returns-clause-played g c)) fine) met.1,
       journal-stays d _ refl refl b met.2 refl,

@@ -3,13 +3,13 @@ use Rattle.std.proofs.lemmas.Result.{IfOk-weaker, IfErr-weaker}
 use Rattle.rz_events.specs.Volume.{nodes_of}
 use Rattle.rz_events.specs.declared.events.Event.{Event}
 use Rattle.rz_metadata.specs.Stands.{is_journaled}
-use Rattle.rz_nodes.specs.Opened.{AreKept}
+use Rattle.rz_nodes.specs.Opened.{AreDisksBack}
 use Rattle.rz_restart_laws.specs.Earlier.{IsEarlier, IsRestarted}
 use Rattle.rz_driver_nodes.specs.Images.{AreDisksImaged}
 use Rattle.rz_driver_nodes.specs.Meters.{faults_at}
 use Rattle.rz_driver.specs.Continued.{AreLeft, IsCauseAgain, IsOpenedAgain, IsOpenedOver, IsRefusedOver}
 use Rattle.rz_driver.specs.Endings.{StandsForLog}
-use Rattle.rz_driver.specs.Worlds.{left_behind, IsDriver, Holds}
+use Rattle.rz_driver.specs.Worlds.{left_behind, IsDriver, HoldsBetweenTurns}
 use Rattle.rz_driver.proofs.AgainLemmas.{over-ready, over-again, over-held, over-untold, over-back, over-cause, journal-back, journal-cause, kept-same, split-same}
 use Rattle.rz_driver.proofs.BehindJournal.{front-count}
 use Rattle.rz_driver.proofs.driver.Driver.again.Goals as goal
@@ -70,7 +70,7 @@ returns-in-Ok-open_journal-clause-untold g c =
     let export = c.in-Ok-open_journal.export in
     let count = front-count disks nodes journal (length (nodes_of v.clusters)) c.in-Ok.ensures.split c.requires.count in
     IfOk-weaker c.open_nodes.result (λ d. IsOpenedOver v export nodes d)
-    (λ d. g.D.Disk.tells ≡ false → (old : List Event) → length old < 2 ^ 63 + 512 → Holds d (left_behind (faults_at g.D.Disk.meter disks) old))
+    (λ d. g.D.Disk.tells ≡ false → (old : List Event) → length old < 2 ^ 63 + 512 → HoldsBetweenTurns d (left_behind (faults_at g.D.Disk.meter disks) old))
     (λ d over. over-untold v c.open_nodes.ensures.rules export nodes count d over disks journal c.in-Ok.ensures.split) c.open_nodes.ensures.opened
 
 pub returns-in-Ok-open_journal-clause-held : goal.returns-in-Ok-open_journal-clause-held
@@ -85,7 +85,7 @@ returns-in-Ok-open_journal-clause-held g c =
     let rules = c.open_nodes.ensures.rules in
     IfOk-weaker c.open_nodes.result (λ d. IsOpenedOver v export nodes d)
     (λ d. IsTrue g.D.Disk.tells → (h : List Event) → IsEarlier v h → AreLeft image v h disks
-    → (old : List Event) × IsRestarted v h old × Holds d (left_behind (faults_at g.D.Disk.meter disks) old))
+    → (old : List Event) × IsRestarted v h old × HoldsBetweenTurns d (left_behind (faults_at g.D.Disk.meter disks) old))
     (λ d over told h earlier left.
     let same = split-same left.nodes nodes left.journal journal (sym left.disks_are ∙ c.in-Ok.ensures.split) in
     let each = subst (λ (ds : List g.row.D.Denot). AreDisksImaged image v _ ds h) same.0 left.each in
@@ -105,7 +105,7 @@ returns-in-Ok-open_journal-clause-back g c =
     let meter = g.D.Disk.meter in
     let text = g.D.Disk.text in
     let image = g.D.Disk.image in
-    IfErr-weaker c.open_nodes.result (λ r. IsRefusedOver tells meter text image v export nodes r.0.items r.1) (λ r. AreKept meter text image disks r.0.items)
+    IfErr-weaker c.open_nodes.result (λ r. IsRefusedOver tells meter text image v export nodes r.0.items r.1) (λ r. AreDisksBack meter text image disks r.0.items)
     (λ r refused. over-back tells meter text image v disks nodes journal c.in-Ok.ensures.split export c.in-Ok-open_journal.ensures.journal c.in-Ok-open_journal.ensures.came c.in-Ok-open_journal.ensures.made r.0.items r.1 refused)
     c.open_nodes.ensures.refused
 
@@ -140,4 +140,4 @@ returns-in-Err-open_journal-clause-cause g c =
 
 pub returns-in-Err-clause-back : goal.returns-in-Err-clause-back
 returns-in-Err-clause-back g c =
-    subst (λ (ds : List g.row.D.Denot). AreKept g.D.Disk.meter g.D.Disk.text g.D.Disk.image c.args.disks.items ds) (sym c.in-Err.ensures.back) (kept-same g.D.Disk.meter g.D.Disk.text g.D.Disk.image c.args.disks.items)
+    subst (λ (ds : List g.row.D.Denot). AreDisksBack g.D.Disk.meter g.D.Disk.text g.D.Disk.image c.args.disks.items ds) (sym c.in-Err.ensures.back) (kept-same g.D.Disk.meter g.D.Disk.text g.D.Disk.image c.args.disks.items)

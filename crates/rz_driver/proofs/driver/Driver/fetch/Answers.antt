@@ -2,7 +2,7 @@ use Rattle.std.proofs.Common.{◌≡◌, ◌≤◌, List, [], ◌∷◌, length,
 use Rattle.std.specs.Vec.{with_items}
 use Rattle.mj_angles.specs.Layout.{max_bins_of}
 use Rattle.rz_disk.specs.UnderFuse.{UnderFuse, fused_meter}
-use Rattle.rz_scrub_report.specs.Stores.{IsRead}
+use Rattle.rz_scrub_report.specs.Stores.{AreBinsRead}
 use Rattle.rz_node_model.specs.NodeEvents.{fetch_event}
 use Rattle.rz_events.specs.declared.keys.Actor.TheVariants.{Admin}
 use Rattle.rz_nodes.specs.declared.formatting.Server.{Server}
@@ -45,7 +45,7 @@ returns-clause-fetched g c =
 
 pub returns-clause-read : goal.returns-clause-read
 returns-clause-read g c =
-    subst (λ (xs : List (Server (UnderFuse g.row.D.Denot))). IsRead (GivesIn g.D.Disk.tells (fused_text g.D.Disk.text) xs c.args.node c.args.key) c.fetch_node.result c.args.out.now c.fetch_node.new.room)
+    subst (λ (xs : List (Server (UnderFuse g.row.D.Denot))). AreBinsRead (GivesIn g.D.Disk.tells (fused_text g.D.Disk.text) xs c.args.node c.args.key) c.fetch_node.result c.args.out.now c.fetch_node.new.room)
     c.as_mut_slice.ensures.value c.fetch_node.ensures.read
 
 pub returns-clause-behind : goal.returns-clause-behind

@@ -6,7 +6,7 @@ use Rattle.rz_nodes.proofs.FormatLemmas.{untouched}
 use Rattle.rz_driver_nodes.specs.Meters.{faults_at}
 use Rattle.rz_driver.specs.declared.driver.Driver.{Driver}
 use Rattle.rz_driver.specs.Formatted.{AreBackWithJournal, IsBehindJournal, IsJournalRefused}
-use Rattle.rz_driver.specs.Worlds.{anew, Holds}
+use Rattle.rz_driver.specs.Worlds.{anew, HoldsBetweenTurns}
 use Rattle.rz_driver.proofs.BehindJournal.{back-count, behind-holds, behind-made, behind-ready, behind-world, back-with, cause-with, front-count, has-last, refused-back, refused-cause}
 use Rattle.rz_driver.proofs.MadeLemmas.{as-many}
 use Rattle.rz_driver.proofs.driver.Driver.first.Goals as goal
@@ -66,8 +66,8 @@ returns-in-Ok-new-clause-held g c =
     let nodes = c.in-Ok.nodes.items in
     let journal = c.in-Ok.journal in
     let count = front-count c.args.disks.items nodes journal (length (nodes_of v.clusters)) c.in-Ok.ensures.split c.requires.count in
-    IfOk-weaker c.behind_journal.result (λ e. IsBehindJournal journal d e) (λ e. Holds e (anew (faults_at g.D.Disk.meter c.args.disks.items)))
-    (λ e behind. subst (λ (disks : List g.row.D.Denot). Holds e (anew (faults_at g.D.Disk.meter disks))) (sym c.in-Ok.ensures.split)
+    IfOk-weaker c.behind_journal.result (λ e. IsBehindJournal journal d e) (λ e. HoldsBetweenTurns e (anew (faults_at g.D.Disk.meter c.args.disks.items)))
+    (λ e behind. subst (λ (disks : List g.row.D.Denot). HoldsBetweenTurns e (anew (faults_at g.D.Disk.meter disks))) (sym c.in-Ok.ensures.split)
     (behind-holds journal d e behind v c.in-Ok-new.ensures.volume c.in-Ok-new.ensures.world nodes count c.in-Ok-new.ensures.held))
     c.behind_journal.ensures.behind
 

@@ -8,7 +8,7 @@ use Rattle.rz_events.specs.declared.events.Event.{Event}
 use Rattle.rz_export_model.specs.Export.{Export}
 use Rattle.rz_core.specs.History.{facts}
 use Rattle.rz_driver.specs.Journals.{KeepsLog}
-use Rattle.rz_driver.specs.Pictures.{AreBytes}
+use Rattle.rz_driver.specs.Coherence.{AreBytes}
 use Rattle.rz_driver.proofs.ExportWords.{bytes-none}
 use Rattle.rz_driver.proofs.KeptCalls.{no-calls}
 use Rattle.rz_nodes.specs.Formatted.{AreFormatted, AreBack}
@@ -17,7 +17,7 @@ use Rattle.rz_driver_nodes.proofs.MeterLemmas.{new-holds}
 use Rattle.rz_driver.proofs.MadeLemmas.{as-many, new-ready, new-is}
 use Rattle.rz_driver_nodes.specs.Meters.{faults_at}
 use Rattle.rz_driver_nodes.specs.Servers.{IsServer}
-use Rattle.rz_driver.proofs.NewPictures.{new-picture}
+use Rattle.rz_driver.proofs.NewCoherence.{new-coherence}
 use Rattle.rz_driver.proofs.driver.Driver.new.Goals as goal
 
 pub returns-in_default-clause-back : goal.returns-in_default-clause-back
@@ -66,7 +66,7 @@ returns-in-Ok-format_all-clause-held g c =
     let servers : AllByRecursion (IsServer v) row = subst (λ (u : Volume). AllByRecursion (IsServer u) row) c.in-Ok.ensures.volume ready.servers in (
       new-holds g.D.Disk.tells g.D.Disk.meter g.D.Disk.text g.D.Disk.image v c.new_parts.ensures.rules c.args.disks.items _ _ _ ready.numbers
           (ap (λ (u : Volume). map (λ (n : NodeSpec). n.sid) (nodes_of u.clusters)) c.in-Ok.ensures.volume) made c.new-log.ensures,
-      new-picture g.D.Disk.tells g.D.Disk.meter g.D.Disk.text g.D.Disk.image c.fresh.ensures v c.new_parts.ensures.rules c.args.disks.items _ (returns-in-Ok-format_all-clause-world g c) c.in-Ok.parts.agendas.items c.in-Ok.ensures.agendas row servers made
+      new-coherence g.D.Disk.tells g.D.Disk.meter g.D.Disk.text g.D.Disk.image c.fresh.ensures v c.new_parts.ensures.rules c.args.disks.items _ (returns-in-Ok-format_all-clause-world g c) c.in-Ok.parts.agendas.items c.in-Ok.ensures.agendas row servers made
           c.in-Ok.parts.volume c.in-Ok.ensures.volume,
       (λ exact. record {
         volume = ap (λ (s : Export). s.volume) c.in-Ok-new_export.ensures.export ∙ sym c.in-Ok.ensures.volume;

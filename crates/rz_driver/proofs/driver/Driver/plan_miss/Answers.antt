@@ -10,7 +10,7 @@ use Rattle.rz_driver.specs.Worlds.{place_of, world, world_of}
 use Rattle.rz_driver_nodes.proofs.Rows.{all-at}
 use Rattle.rz_driver.proofs.OrderLemmas.{ordered, still-ready}
 use Rattle.rz_driver.proofs.ActorOrders.{place-low}
-use Rattle.rz_driver.proofs.DriverPictures.{actor-picture, works-with}
+use Rattle.rz_driver.proofs.DriverCoherence.{actor-coherence, works-with}
 use Rattle.rz_driver.proofs.JournalLemmas.{journal-stays}
 use Rattle.rz_driver.proofs.driver.Driver.plan_miss.Goals as goal
 
@@ -49,7 +49,7 @@ returns-clause-held g c = λ b met.
     let low : c.in-Some.place < length d.agendas.items = omega (arith, row, count) in
     let here : slice_get d.agendas.items c.in-Some.place ≡ Some s = slice_get_read d.agendas.items (length d.agendas.items) c.in-Some.place s refl low c.index_mut.ensures.value in (
       met.0,
-      actor-picture d b.log c.in-Some.place s agenda d.turns here refl
+      actor-coherence d b.log c.in-Some.place s agenda d.turns here refl
           (λ a. ap (λ (w : World). (w.agendas a).work) (returns-clause-played g c) ∙ works-with (world_of d) c.args.by (with_miss ((world_of d).agendas c.args.by) c.args.reply) refl a) (λ rules fine.
           c.lined.ensures d.volume rules b.log (line.Miss c.args.by c.args.reply) c.requires.line (behind b.log (world_of d)) (behind b.log (world d.shared (set d.agendas.items c.in-Some.place agenda) d.turns)) (ap (behind b.log) (returns-clause-played g c)) fine) met.1,
       journal-stays d _ refl refl b met.2 refl,

@@ -2,7 +2,7 @@
 use Rattle.std.proofs.Common.{◌≡◌, ◌⊎◌, ℕ, ◌<◌, ◌≤◌, List, length, sym, subst, ap}
 use Rattle.rz_journal.specs.declared.rebuilding.JournalFault.{JournalFault}
 use Rattle.rz_journal.specs.declared.rebuilding.JournalFault.TheVariants.{NoMemory, DiskFault}
-use Rattle.rz_journal.specs.Opening.{IsRebuilt, IsReopened, IsStopped, IsRefused, fault_of}
+use Rattle.rz_journal.specs.Opening.{MakeExport, IsReopened, StopsAtEntry, IsJournalRefused, fault_of}
 use Rattle.rz_journal.proofs.Reopened.{some_there, room_there, reopened, stopped, refused, ready_there, rebuilt_volume, after_calls}
 use Rattle.rz_journal.proofs.Exact.{exact}
 use Rattle.rz_journal.proofs.WholeTexts.{makes_whole}
@@ -27,7 +27,7 @@ invariant_of-result g c = λ _.
     let s = c.in-Ok-rebuild.export in
     let used = c.in-Ok-rebuild.used in
     let there = c.into_entries.result in
-    let rebuilt = subst (λ (b : List ℕ). IsRebuilt volume b used s) c.bytes.ensures c.in-Ok-rebuild.ensures.rebuilt in
+    let rebuilt = subst (λ (b : List ℕ). MakeExport volume b used s) c.bytes.ensures c.in-Ok-rebuild.ensures.rebuilt in
     ready_there g.D.Disk.tells (g.D.Disk.text there.disk) (g.D.Disk.image there.disk) there.half there.used s volume c.into_entries.ensures.open
     (rebuilt_volume volume h.bytes.items used s rebuilt)
     (λ told.
@@ -46,7 +46,7 @@ returns-in-Ok-rebuild-clause-calls g c = λ told calls is.
     let volume = c.args.volume in
     let s = c.in-Ok-rebuild.export in
     let used = c.in-Ok-rebuild.used in
-    let rebuilt = subst (λ (b : List ℕ). IsRebuilt volume b used s) c.bytes.ensures c.in-Ok-rebuild.ensures.rebuilt in
+    let rebuilt = subst (λ (b : List ℕ). MakeExport volume b used s) c.bytes.ensures c.in-Ok-rebuild.ensures.rebuilt in
     let there = reopened g.D.Disk.tells (g.D.Disk.text h.disk) (g.D.Disk.image h.disk) h.half h.bytes.items c.in-Ok.ensures.open volume used s rebuilt told in
     let room = room_there g.D.Disk.tells (g.D.Disk.text h.disk) (g.D.Disk.image h.disk) h.half h.bytes.items c.in-Ok.ensures.open volume used
     (subst (λ (b : List ℕ). used < length b) c.bytes.ensures c.in-Ok-rebuild.ensures.used) in
@@ -65,6 +65,6 @@ returns-in-Err-rebuild-clause-exact g c = λ told calls is.
     let h = c.in-Ok.half in
     let volume = c.args.volume in
     let fault = c.in-Err-rebuild.fault in
-    let why = subst (λ (b : List ℕ). IsStopped volume b fault) c.bytes.ensures c.in-Err-rebuild.ensures.stopped in
+    let why = subst (λ (b : List ℕ). StopsAtEntry volume b fault) c.bytes.ensures c.in-Err-rebuild.ensures.stopped in
     let there = stopped g.D.Disk.tells (g.D.Disk.text h.disk) (g.D.Disk.image h.disk) h.half h.bytes.items c.in-Ok.ensures.open volume fault why in
-    exact g.D.Disk.tells volume (g.D.Disk.text c.args.disk) fault (subst (λ (t : List ℕ). IsRefused g.D.Disk.tells volume t fault) c.in-Ok.ensures.text there) told calls is
+    exact g.D.Disk.tells volume (g.D.Disk.text c.args.disk) fault (subst (λ (t : List ℕ). IsJournalRefused g.D.Disk.tells volume t fault) c.in-Ok.ensures.text there) told calls is

@@ -2,7 +2,7 @@ use Rattle.std.proofs.Common.{subst, sym}
 use Rattle.rz_operation_model.specs.Steps.{Locked}
 use Rattle.rz_operation_states.specs.declared.stage.OperationState.{OperationState}
 use Rattle.rz_operation_states.specs.Machine.{Machine}
-use Rattle.rz_operation_states.specs.Answers.{Goes}
+use Rattle.rz_operation_states.specs.Answers.{IsWorkAfter}
 use Rattle.rz_operation_states.specs.Inside.{machine_of}
 use Rattle.rz_operation.proofs.machine.Machine.tell_locked.Goals as goal
 
@@ -13,6 +13,6 @@ returns c =
     let told = Locked c.args.granted c.args.reply in
     let new = at c.replace.new.dest in
     let before = at c.replace-stage.result in
-    subst (λ (m : Machine). Goes m m.pairs told new) c.self.view_is
-    (subst (λ (s : OperationState). Goes (at s) (at s).pairs told new) c.replace-stage.ensures.value
-    (subst (λ (s : OperationState). Goes before before.pairs told (at s)) (sym c.replace.ensures.after) c.after_lock-next.ensures.goes))
+    subst (λ (m : Machine). IsWorkAfter m m.pairs told new) c.self.view_is
+    (subst (λ (s : OperationState). IsWorkAfter (at s) (at s).pairs told new) c.replace-stage.ensures.value
+    (subst (λ (s : OperationState). IsWorkAfter before before.pairs told (at s)) (sym c.replace.ensures.after) c.after_lock-next.ensures.goes))

@@ -2,7 +2,7 @@ use Rattle.std.proofs.Common.{subst, sym}
 use Rattle.rz_operation_model.specs.Steps.{Noted}
 use Rattle.rz_operation_states.specs.declared.stage.OperationState.{OperationState}
 use Rattle.rz_operation_states.specs.Machine.{Machine, text_of}
-use Rattle.rz_operation_states.specs.Answers.{Goes}
+use Rattle.rz_operation_states.specs.Answers.{IsWorkAfter}
 use Rattle.rz_operation_states.specs.Inside.{machine_of}
 use Rattle.rz_operation.proofs.machine.Machine.tell_said.Goals as goal
 
@@ -12,6 +12,6 @@ returns c =
     let at : OperationState → Machine = λ s. machine_of i.layout s in
     let new = at c.replace.new.dest in
     let before = at c.replace-stage.result in
-    subst (λ (m : Machine). Goes m m.pairs (Noted (text_of m)) new) c.self.view_is
-    (subst (λ (s : OperationState). Goes (at s) (at s).pairs (Noted (text_of (at s))) new) c.replace-stage.ensures.value
-    (subst (λ (s : OperationState). Goes before before.pairs (Noted (text_of before)) (at s)) (sym c.replace.ensures.after) c.after_said-next.ensures.goes))
+    subst (λ (m : Machine). IsWorkAfter m m.pairs (Noted (text_of m)) new) c.self.view_is
+    (subst (λ (s : OperationState). IsWorkAfter (at s) (at s).pairs (Noted (text_of (at s))) new) c.replace-stage.ensures.value
+    (subst (λ (s : OperationState). IsWorkAfter before before.pairs (Noted (text_of before)) (at s)) (sym c.replace.ensures.after) c.after_said-next.ensures.goes))

@@ -17,7 +17,7 @@ use Rattle.rz_chronicle.specs.Kinds.{MayCome, is_honest, volume_in}
 use Rattle.rz_shared_locked.specs.Adding.{Adds}
 use Rattle.rz_shared_locked.specs.Counts.{GoesWith}
 use Rattle.rz_shared_locked.specs.Picks.{pick_of}
-use Rattle.rz_shared_locked.specs.LockedNodes.{LockedNodeView, IsLogged, MayAsk, Answered, IsRead}
+use Rattle.rz_shared_locked.specs.LockedNodes.{LockedNodeView, IsLogged, MayAsk, Answered, IsTrueRecord}
 use Rattle.rz_shared_locked.proofs.Picks.{call-picks}
 use Rattle.rz_shared_locked.proofs.LockedNodes.{Served, its-event, may-come, logged-after, answered, later-adds, word-after}
 use Rattle.rz_shared_locked.proofs.locked_node.LockedNode.answered.Goals as goal
@@ -205,7 +205,7 @@ returns-clause-read g c =
     let adds : Adds (word_key (w.Node n) ∷ ks) h (node_event by n q given) new =
     subst (λ (u : Word). Adds (word_key u ∷ ks) h (node_event by n q given) new) inv.0
     (subst (λ (o : Option Event). Adds (word_key c.self.inside.word_token.word ∷ ks) h o new) event c.add.ensures.adds) in
-    λ honest. subst (λ (m : ℕ). IsRead v (facts new) m q given c.args.bins.now c.serve-answer.new.bins) node
+    λ honest. subst (λ (m : ℕ). IsTrueRecord v (facts new) m q given c.args.bins.now c.serve-answer.new.bins) node
     (c.read_kept.ensures v h new n q given c.args.bins.now c.serve-answer.new.bins (later-adds (word_key (w.Node n) ∷ ks) h (node_event by n q given) new adds)
     (c.serve-answer.ensures.read (inv.3 honest).0 v (facts h) n (logged honest).imaged))
 

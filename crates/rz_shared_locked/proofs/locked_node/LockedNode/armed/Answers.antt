@@ -10,7 +10,7 @@ use Rattle.rz_chronicle.specs.Keys.{count_at, word_key}
 use Rattle.rz_chronicle.specs.Kinds.{is_honest, volume_in}
 use Rattle.rz_shared_locked.specs.Adding.{Adds}
 use Rattle.rz_shared_locked.specs.Counts.{GoesWith}
-use Rattle.rz_shared_locked.specs.Laws.{IsStep}
+use Rattle.rz_shared_locked.specs.Laws.{IsAllowedLater}
 use Rattle.rz_shared_locked.specs.Picks.{pick_of}
 use Rattle.rz_shared_locked.specs.LockedNodes.{LockedNodeView, IsLogged}
 use Rattle.rz_shared_locked.proofs.Metering.{arm-goes, armed-there}
@@ -32,7 +32,7 @@ add-requires-clause-legal g c =
     let logged : IsTrue (is_honest kind) → IsLogged image v h n was = λ honest. subst (λ (l : List Event). IsLogged image v l n was) log (inv.3 honest).1 in
     let room : count_at (word_key (w.Node n)) h + 1 < 2 ^ 64 = subst (λ (m : ℕ). count_at (word_key (w.Node m)) h + 1 < 2 ^ 64) (sym node)
     (subst (λ (l : List Event). count_at (word_key (w.Node c.args.self.now.node)) l + 1 < 2 ^ 64) c.requires.one c.requires.room) in
-    let step : IsTrue (is_honest kind) → IsStep v h by n (e.Armed n c.args.passes c.args.pick) was.state = λ honest.
+    let step : IsTrue (is_honest kind) → IsAllowedLater v h by n (e.Armed n c.args.passes c.args.pick) was.state = λ honest.
     c.arming.ensures v h by n c.args.passes c.args.pick was.state (record { legal = c.actor-by.ensures.fit honest; of_volume = inv.1; tied = (logged honest).tied; room = room }) in
     λ honest. (step honest).allowed
 
@@ -51,7 +51,7 @@ invariant_of-self g c =
     let logged : IsTrue (is_honest kind) → IsLogged image v h n was = λ honest. subst (λ (l : List Event). IsLogged image v l n was) log (inv.3 honest).1 in
     let room : count_at (word_key (w.Node n)) h + 1 < 2 ^ 64 = subst (λ (m : ℕ). count_at (word_key (w.Node m)) h + 1 < 2 ^ 64) (sym node)
     (subst (λ (l : List Event). count_at (word_key (w.Node c.args.self.now.node)) l + 1 < 2 ^ 64) c.requires.one c.requires.room) in
-    let step : IsTrue (is_honest kind) → IsStep v h by n (e.Armed n c.args.passes c.args.pick) was.state = λ honest.
+    let step : IsTrue (is_honest kind) → IsAllowedLater v h by n (e.Armed n c.args.passes c.args.pick) was.state = λ honest.
     c.arming.ensures v h by n c.args.passes c.args.pick was.state (record { legal = c.actor-by.ensures.fit honest; of_volume = inv.1; tied = (logged honest).tied; room = room }) in
     let new = c.add.new.pass.log in
     let after = c.arm.new.self in
