@@ -1,4 +1,4 @@
--- Nobody else adds an event where the tallies of all actors are held.
+-- Nobody else adds an event where the tokens of all actors are held.
 use Rattle.std.proofs.Common.{ℕ, suc, Bool, true, false, ◌≡◌, ◌≤◌, ◌==◌, ◌||◌, List, [], ◌∷◌, ◌++◌, length, cond, refl, ◌∙◌, ap, subst, arith}
 use Rattle.std.specs.List.{filter}
 use Rattle.std.proofs.lemmas.Bool.{eq-eqb}

@@ -217,7 +217,7 @@ keys-holding : (k : ℕ) (held : List (ℕ × ℕ)) → IsOneOf k (keys held) �
 keys-holding k [] one = one
 keys-holding k (x ∷ held) one = elim one [ inl e ↦ inl e | inr rest ↦ inr (keys-holding k held rest) ]
 
--- a tokens is that of another actor too, whose tallies it has
+-- tokens are those of another actor too, whose keys are among theirs
 pub own-other : (δ η : ℕ) (kind : List ℕ) (log : List Event) (a b : Actor) (o : Option Tokens) → IsSomeAnd o (λ h. AreTokens δ η kind log h × AreTokensOf a h.held)
     → IsOneOf (word_key (Own b)) (keys_in o) → IsOneOf (actor_key b) (keys_in o) → IsSomeAnd o (λ h. AreTokens δ η kind log h × AreTokensOf b h.held)
 own-other δ η kind log a b None is own by = is

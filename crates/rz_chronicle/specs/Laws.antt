@@ -11,7 +11,7 @@ use Rattle.rz_chronicle.specs.Keys.{IsLater, count_at, word_key}
 use Rattle.rz_chronicle.specs.Kinds.{Fits, HavePlaces, HasEarlierLog, MayComeAfter, MayFit, keeps_legal, volume_in}
 use Rattle.rz_chronicle.specs.Holds.{HasAllActors, Stays}
 
--- Where the tallies of all actors are held, a later history in which the events of their keys are the old ones has no event more.
+-- Where the tokens of all actors are held, a later history in which the events of their keys are the old ones has no event more.
 abbrev pub IsAddedAlone : Type 0
 IsAddedAlone = (kind ks : List ℕ) (old new : List Event) → HasAllActors ks → HavePlaces kind new → IsLater old new → Stays ks old new → new ≡ old
 

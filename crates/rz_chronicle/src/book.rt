@@ -265,7 +265,7 @@ impl<J: Naming> Book<J> {
         }
     }
 
-    /// Lets a pass act as another of the actors whose tallies it holds.
+    /// Lets a pass act as another of the actors whose tokens it holds.
     #[tactic(auto, using(crate::proofs::Histories::count_history))]
     pub fn turn_to(&self, pass: &mut Pass<J>, actor: Actor)
         requires member { IsMember actor }

@@ -23,7 +23,7 @@ pub fn words_counted()
     ensures { (w : AWord) (h : List AnEvent) → length (of_word w h) ≤ count_at (word_key w) h }
 {}
 
-/// Who holds the tallies of all actors adds alone: nobody else can have added an event meanwhile.
+/// Who holds the tokens of all actors adds alone: nobody else can have added an event meanwhile.
 pub fn added_alone()
     ensures { IsAddedAlone }
 {}

@@ -94,7 +94,7 @@ impl<J: Naming> Pass<J> {
         }
     }
 
-    /// Whose it is. A pass holds the tallies of its actor's events and of its own word. Each event that it
+    /// Whose it is. A pass holds the tokens of its actor's events and of its own word. Each event that it
     /// has seen is by an actor of the book, and of a word of the book.
     pub fn actor(&self) -> Actor
         ensures value { result ≡ self.now.actor }

@@ -70,7 +70,7 @@ impl Model for Tokens {
     ghost also_owns = { λ h. tokens_own h.counters h.copy h.held h.log };
 }
 
-/// What callers keep at the start, and the tallies of all words and actors.
+/// What callers keep at the start, and the tokens of all words and actors.
 pub fn begin<B: Beginning>(kind: &BookKind) -> (Start<Event, Told, Law>, Tokens)
     requires { Fits (with_earlier kind.now B.earlier) [] }
     ensures { (result.0.names ≡ result.1.counters ∷ result.1.copy ∷ result.1.kind) × (result.0.shown ≡ []) × (result.1.kind ≡ with_earlier kind.now B.earlier) × (result.1.held ≡ zeros 0 rows) × (result.1.log ≡ []) }
