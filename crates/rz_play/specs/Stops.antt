@@ -20,10 +20,10 @@ may_change (call.Publish key stamp mask length) = true
 may_change (call.Enroll node loss) = true
 may_change _ = false
 
--- Such a call is asked of the export: a journal of the export stores it before it is answered, whether it is then accepted or not.
-abbrev pub IsChange : Ask → Type 0
-IsChange (AskExport c) = may_change c ≡ true
-IsChange _ = ⊥
+-- This call is asked of the export, and it may change it: a journal of the export needs room for it before it is answered, whether it
+-- is then accepted or not.
+abbrev pub IsChange : Ask → Call → Type 0
+IsChange ask c = (ask ≡ AskExport c) × (may_change c ≡ true)
 
 -- Why a turn is not taken.
 
@@ -34,12 +34,12 @@ most_turns = 1000000
 pub data StopCause : Type 0 where
   -- a turn more is called for
   TurnsSpent : StopCause
-  -- the journal failed, or had no room, for the call of the turn: nothing happened
-  JournalRefused : StopCause
+  -- the journal failed, or had no room, for this call, which is the turn's: nothing happened
+  JournalRefused : Call → StopCause
 
 abbrev pub HasCause : Volume → StopCause → World → Actor → Type 0
 HasCause v TurnsSpent w by = w.turns ≡ most_turns
-HasCause v JournalRefused w by = (w.turns < most_turns) × IsChange (ask_of v.layout (at_work (w.agendas by)).work)
+HasCause v (JournalRefused c) w by = (w.turns < most_turns) × IsChange (ask_of v.layout (at_work (w.agendas by)).work) c
 
 -- The turns before it.
 

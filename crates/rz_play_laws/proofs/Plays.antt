@@ -448,7 +448,7 @@ plays-begin v (l ∷ lines) tells w next (mid, first, more) = inr (mid, first, p
 -- a play stops with no more turns than it may have
 cause-few : (v : Volume) (cause : StopCause) (w : World) (by : Actor) → HasCause v cause w by → w.turns ≤ most_turns
 cause-few v TurnsSpent w by is = omega (arith, is)
-cause-few v JournalRefused w by is = let l = is.0 in omega (arith, l)
+cause-few v (JournalRefused c) w by is = let l = is.0 in omega (arith, l)
 
 stop-few : (v : Volume) (cause : StopCause) (l : Line) (w next : World) → StopsLine v cause l w next → next.turns ≤ most_turns
 stop-few v cause (line.Turn by k) w next (j, low, turns, why) = cause-few v cause next by why
