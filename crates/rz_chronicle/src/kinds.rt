@@ -4,41 +4,21 @@ ghost use Rattle.rz_events.specs.Volume.{Volume as AVolume};
 ghost use Rattle.rz_events.specs.declared.events.Event.{Event as AnEvent};
 ghost use Rattle.rz_chronicle.specs.Kinds.{kind_of, kind_after, is_honest, keeps_legal, volume_in, HasEarlierLog};
 
-use rz_config::Volume;
-use std::marker::{Brand, Model};
+use std::marker::Brand;
 
-/// The kind of a book: the volume whose log it has, and whether it keeps that log legal.
-#[derive(Drop)]
-pub struct BookKind {
-    volume: Volume,
-    honest: bool,
-}
-
-impl Model for BookKind {
-    ghost use Rattle.std.specs.Prelude.{List, ℕ};
-    ghost use Rattle.rz_chronicle.specs.Kinds.{kind_of};
-
-    ghost Value = { List ℕ };
-
-    ghost view = { λ k. kind_of k.honest k.volume };
-}
-
-impl BookKind {
-    /// The kind of an honest book of this volume, or of one that takes every event.
-    pub fn of(volume: Volume, honest: bool) -> BookKind
-        ensures { result ≡ kind_of honest volume }
-    {
-        BookKind { volume, honest }
-    }
-}
-
-/// The earlier log after which a book goes on, which has the newest event first. The call that makes the
-/// book picks it.
+/// What the call that makes a book picks: whether the book keeps its log legal, and the earlier log after
+/// which it goes on, which has the newest event first. Proofs alone know either, so no program can ask.
 pub trait Beginning {
+    ghost honest: { Bool };
+
     ghost earlier: { List AnEvent };
 }
 
 impl Beginning for Brand {
+    ghost use Rattle.std.specs.Prelude.{false};
+
+    ghost honest = { false };
+
     ghost earlier = { [] };
 }
 

@@ -26,7 +26,7 @@ mod tokens;
 mod told;
 
 pub use book::Book;
-pub use kinds::{Beginning, BookKind, read_back, read_back_after};
+pub use kinds::{Beginning, read_back, read_back_after};
 pub use laws::{
     actors_kept, added_alone, begins_anew, local_after, one_rule, roomy, words_counted, words_kept,
 };

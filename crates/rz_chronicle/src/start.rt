@@ -16,7 +16,7 @@ ghost use Rattle.rz_chronicle.specs.Dealing.{new_pass, new_word_token, ArePasses
 
 use crate::book::Book;
 use crate::dealer::{Dealer, clients, rebuilders, word_tokens};
-use crate::kinds::{Beginning, BookKind, read_back_after};
+use crate::kinds::{Beginning, read_back_after};
 use crate::passes::{Desk, Naming, Pass};
 use crate::places::{WORDS, key_at};
 use crate::tokens::{Law, Tokens, begin};
@@ -139,25 +139,33 @@ impl NewBook {
     pub fn start(alloc: Global, volume: &Volume, honest: bool) -> Result<NewBook, AllocError>
         ensures { IfOk result (λ o. o.tokens.kind ≡ kind_of honest volume.now) }
     {
-        NewBook::after::<Brand>(alloc, volume, honest)
+        NewBook::anew::<Brand>(alloc, volume, honest)
     }
 
-    /// A new book of this volume, honest or not, whose log goes on after an earlier one. The earlier log
-    /// takes no memory.
-    pub fn after<B: Beginning>(
+    // The same, whose log the call picks: it begins anew.
+    fn anew<B: Beginning>(
         alloc: Global,
         volume: &Volume,
         honest: bool,
     ) -> Result<NewBook, AllocError>
-        requires { IsTrue honest → IsLegalInRuns volume.now B.earlier }
-        ensures { IfOk result (λ o. o.tokens.kind ≡ kind_after honest volume.now B.earlier) }
+        requires honest { B.honest ≡ honest }
+        requires empty { B.earlier ≡ [] }
+        ensures { IfOk result (λ o. o.tokens.kind ≡ kind_of honest volume.now) }
+    {
+        let _ = honest;
+        NewBook::after::<B>(alloc, volume)
+    }
+
+    /// A new book of this volume, honest or not, whose log goes on after an earlier one: the call picks
+    /// both. The earlier log takes no memory.
+    pub fn after<B: Beginning>(alloc: Global, volume: &Volume) -> Result<NewBook, AllocError>
+        requires { IsTrue B.honest → IsLegalInRuns volume.now B.earlier }
+        ensures { IfOk result (λ o. o.tokens.kind ≡ kind_after B.honest volume.now B.earlier) }
     {
         let nodes = numbers(alloc, volume.clusters.as_slice())?;
         let _few = volume.node_count();
-        let kind = BookKind::of(volume.copy(alloc)?, honest);
         read_back_after();
-        let (start, tokens) = begin::<B>(&kind);
-        drop(kind);
+        let (start, tokens) = begin::<B>(volume);
         let count = key_count();
         let (seen, pens) = Seen::open_row::<Empty, Empty>(&Empty, start, count);
         let pens = all_pens(alloc, pens, count)?;

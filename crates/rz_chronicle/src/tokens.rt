@@ -2,12 +2,13 @@
 ghost use Rattle.std.specs.Prelude.{◌≡◌, ◌<◌, ℕ, [], ◌∷◌, ◌++◌, List, None, length};
 ghost use Rattle.rz_events.specs.declared.events.Event.{Event as AnEvent};
 ghost use Rattle.rz_chronicle.specs.Keys.{rows};
-ghost use Rattle.rz_chronicle.specs.Kinds.{HasPlace, HavePlaces, Fits, history, with_earlier};
+ghost use Rattle.rz_chronicle.specs.Kinds.{HasPlace, HavePlaces, Fits, history, kind_after};
 ghost use Rattle.rz_chronicle.specs.Tokens.{AllInRow, AreKeysApart, Covers, KeepsBookKind, Agree, IsHolding, at, counts, notes, held_in, mark, zeros, without, count_in};
 
-use crate::kinds::{Beginning, BookKind};
+use crate::kinds::Beginning;
 use crate::told::Told;
 use logbook::{Gain, Gained, Offer, Rule, Start};
+use rz_config::Volume;
 use rz_events::Event;
 use std::marker::{Model, PhantomData};
 
@@ -71,11 +72,11 @@ impl Model for Tokens {
 }
 
 /// What callers keep at the start, and the tokens of all words and actors.
-pub fn begin<B: Beginning>(kind: &BookKind) -> (Start<Event, Told, Law>, Tokens)
-    requires { Fits (with_earlier kind.now B.earlier) [] }
-    ensures { (result.0.names ≡ result.1.counters ∷ result.1.copy ∷ result.1.kind) × (result.0.shown ≡ []) × (result.1.kind ≡ with_earlier kind.now B.earlier) × (result.1.held ≡ zeros 0 rows) × (result.1.log ≡ []) }
+pub fn begin<B: Beginning>(volume: &Volume) -> (Start<Event, Told, Law>, Tokens)
+    requires { Fits (kind_after B.honest volume.now B.earlier) [] }
+    ensures { (result.0.names ≡ result.1.counters ∷ result.1.copy ∷ result.1.kind) × (result.0.shown ≡ []) × (result.1.kind ≡ kind_after B.honest volume.now B.earlier) × (result.1.held ≡ zeros 0 rows) × (result.1.log ≡ []) }
 {
-    let _ = kind;
+    let _ = volume;
     (
         Start {
             marker: PhantomData,

@@ -28,8 +28,8 @@ use Rattle.rz_events.specs.contracts.events.Event as Event
 use Rattle.rz_chronicle.specs.contracts.told.Told as Told
 use Rattle.rz_chronicle.specs.contracts.tokens.Law as Law
 use Rattle.rz_chronicle.specs.contracts.tokens.Tokens as Hand
-use Rattle.rz_chronicle.specs.contracts.kinds.BookKind as Kind
-use Rattle.rz_chronicle.specs.Kinds.{with_earlier}
+use Rattle.rz_config.specs.contracts.volume.Volume as Volume
+use Rattle.rz_chronicle.specs.Kinds.{kind_after}
 use Rattle.rz_chronicle.specs.contracts.tokens.LawRuleEventTold.TheImpl as law
 use Rattle.rz_chronicle.proofs.Trades as trades
 use Rattle.rz_chronicle.specs.contracts.tokens.begin.{ended, clauses}
@@ -46,10 +46,10 @@ All = Tuple (Event.the_row ∷ Told.the_row ∷ Law.the_row ∷ [])
 pub begin_spec : {M : Type 1} → statement M
 begin_spec 𝓤 𝓛 𝓜 𝓡 wired B _ gn dn _ =
     let H = 𝓛.H in let En = ended B gn dn in let inst = bounded (a_type ∷ []) (B, tt) (dcons dn dnil) in let 𝓣 = tables 𝓤 H 𝓜 𝓡 𝓡.env in let fn = inst_fn inst code.function in let c = clauses B gn dn 𝓛 𝓜.mem 𝓡.returns in
-    let hs : Stays En.signature.params En.kept = (stay_dropped (RefOf (0 ∷ []) tt (plain (λ _. Kind.the_row)) (λ _. tt)) yes, tt) in
-    proved 𝓛 En hs c 𝓜 𝓡 (Goes-dropped 𝓛 2 (RefOf (0 ∷ []) tt (plain (λ _. Kind.the_row)) (λ _. tt)) yes (λ κs x f. refl), tt) (#self inst) fn (code.unfolded 𝓤 H 𝓜 𝓡 wired (B, tt) dn)
-    (λ κs. (shr_vals, tt)) (λ κs. (shr_Tells (named 0) κs.0 Kind.the_row, tt)) (λ κs qs bounds a gh are.
-    let kind : List ℕ = with_earlier a.0.now gn.earlier in let here : Val = vptr a.0.ref_ptr.0 a.0.ref_ptr.1 in
+    let hs : Stays En.signature.params En.kept = (stay_dropped (RefOf (0 ∷ []) tt (plain (λ _. Volume.the_row)) (λ _. tt)) yes, tt) in
+    proved 𝓛 En hs c 𝓜 𝓡 (Goes-dropped 𝓛 2 (RefOf (0 ∷ []) tt (plain (λ _. Volume.the_row)) (λ _. tt)) yes (λ κs x f. refl), tt) (#self inst) fn (code.unfolded 𝓤 H 𝓜 𝓡 wired (B, tt) dn)
+    (λ κs. (shr_vals, tt)) (λ κs. (shr_Tells (named 0) κs.0 Volume.the_row, tt)) (λ κs qs bounds a gh are.
+    let kind : List ℕ = kind_after gn.honest a.0.now gn.earlier in let here : Val = vptr a.0.ref_ptr.0 a.0.ref_ptr.1 in
     let y : (walk_of 𝓛 En hs c).Ghost = ((κs, qs, bounds, a, (here ∷ [], tt)), gh) in let WordToken : Val → SProp 𝓤 = (walk_of 𝓛 En hs c).post y in
     qed 𝓛 ((‵ (fsep (flft κs.0 qs.0) (fsep (flft κs.1.0 qs.1.0) ftrue)) ⊛ ‵ (owns (types_at En.signature.params κs) a y.0.4)) ∷ raw (fact 𝓤 _) ∷ given _ (‵ ftrue) ∷ []) ∵ keep ! (2 ∷ 0 ∷ []) $ learn ! (λ fits. drop ! $ split ! $ keep ! (0 ∷ []) $
     enter ! 𝓣.C 𝓣.Λ fn (here ∷ []) WordToken $ alloc_all ! (λ l. pass_all ! refl ((tt, tt), tt) $

@@ -1,11 +1,11 @@
-use Rattle.std.proofs.Common.{◌≡◌, ◌≤◌, ℕ, [], List, map, length, sym, ap, ◌∙◌, subst, nat_eq}
+use Rattle.std.proofs.Common.{◌≡◌, ◌≤◌, ℕ, List, map, length, sym, ap, ◌∙◌, subst, nat_eq}
 use Rattle.std.specs.List.{IsDistinct}
 use Rattle.std.proofs.lemmas.List.{length-map}
 use Rattle.logbook.specs.Pages.{Book}
 use Rattle.rz_events.specs.declared.files.NodeSpec.{NodeSpec}
 use Rattle.rz_events.specs.Volume.{Cluster, Volume, nodes_of}
 use Rattle.rz_chronicle.specs.Keys.{sids_of}
-use Rattle.rz_chronicle.specs.Kinds.{volume_in, kind_of, with_earlier, Fits}
+use Rattle.rz_chronicle.specs.Kinds.{volume_in}
 use Rattle.rz_chronicle.specs.Rules.{AreBookWords}
 use Rattle.rz_chronicle.specs.Dealing.{AreFresh}
 use Rattle.rz_chronicle.proofs.Trades.{kept_keyless}
@@ -42,11 +42,9 @@ invariant_of-result-clause-distinct g c =
 pub invariant_of-result-clause-numbers : goal.invariant_of-result-clause-numbers
 invariant_of-result-clause-numbers g c =
     let sids : c.in_ok-nodes.nodes.items ≡ sids_of c.args.volume.now = c.in_ok-nodes.ensures ∙ (ap (λ (cs : List Cluster). map (λ (n : NodeSpec). n.sid) (nodes_of cs)) c.as_slice.ensures.value ∙ ap (λ (v : Volume). sids_of v) c.volume.view_is) in
+    let honest = g.B.Beginning.honest in
     let earlier = g.B.Beginning.earlier in
-    let kind = c.begin-start.ensures.2 ∙ ap (λ (k : List ℕ). with_earlier k earlier) (c.of-kind.ensures ∙ ap (kind_of c.args.honest) c.in_ok-copy.ensures) in
-    sids ∙ sym (ap (λ (k : List ℕ). sids_of (volume_in k)) kind ∙ ap sids_of (c.read_back_after.ensures c.args.honest c.args.volume.now earlier).1)
+    sids ∙ sym (ap (λ (k : List ℕ). sids_of (volume_in k)) c.begin-start.ensures.2 ∙ ap sids_of (c.read_back_after.ensures honest c.args.volume.now earlier).1)
 
 pub begin-start-requires : goal.begin-start-requires
-begin-start-requires g c =
-    let earlier = g.B.Beginning.earlier in
-    subst (λ (k : List ℕ). Fits (with_earlier k earlier) []) (sym (c.of-kind.ensures ∙ ap (kind_of c.args.honest) c.in_ok-copy.ensures)) (fits-first c.args.honest c.args.volume.now earlier c.requires)
+begin-start-requires g c = fits-first g.B.Beginning.honest c.args.volume.now g.B.Beginning.earlier c.requires
