@@ -84,7 +84,7 @@ IsTextLong state count = Unit {0}
 -- The beginning.
 
 -- what waits for its file
-pub record Plan : Type 0 where
+pub record FilePlanView : Type 0 where
   pub layout : Layout
   pub plan : RangePlan
 

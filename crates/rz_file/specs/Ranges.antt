@@ -2,18 +2,18 @@
 use Rattle.std.specs.Prelude.{ℕ, ◌≤◌, ◌<◌, ◌+◌, ◌-◌, ◌%◌, ◌^◌, List, [], drop}
 use Rattle.mj_angles.specs.declared.layout.Layout.{Layout}
 use Rattle.mj_angles.specs.Layout.{block_bytes_of}
-use Rattle.rz_operation_model.specs.Ranges.{Aim, Taking, Range as RangeOf}
-use Rattle.rz_file.specs.declared.range.Range.{Range}
+use Rattle.rz_operation_model.specs.Ranges.{Aim, Taking, Range}
+use Rattle.rz_file.specs.declared.range.RangeProgress.{RangeProgress}
 
-abbrev pub range_of : Aim → Range → RangeOf
+abbrev pub range_of : Aim → RangeProgress → Range
 range_of aim r = record { info = r.info; offset = r.offset; size = r.size; done = r.done; aim = aim }
 
 -- the range, whatever is done with it
-abbrev pub bare : Range → RangeOf
+abbrev pub bare : RangeProgress → Range
 bare r = range_of (Taking []) r
 
 -- no more is done than there is, and the end has 64 bits
-pub record InRange (r : Range) : Type 0 where
+pub record InRange (r : RangeProgress) : Type 0 where
   pub done : r.done ≤ r.size
   pub ends : r.offset + r.size < 2 ^ 64
 

@@ -10,7 +10,7 @@ ghost use Rattle.rz_file.specs.Ranges.{from_first_block};
 use crate::FileMachine;
 use crate::block_writer::BlockWriter;
 use crate::machine::begin;
-use crate::range::{Range, from_first_block};
+use crate::range::{RangeProgress, from_first_block};
 use crate::span::{Aim, Span};
 use mj_angles::Layout;
 use rz_batch::Batch;
@@ -32,9 +32,9 @@ pub struct FilePlan {
 }
 
 impl Model for FilePlan {
-    ghost use Rattle.rz_file.specs.Machine.{Plan};
+    ghost use Rattle.rz_file.specs.Machine.{FilePlanView};
 
-    ghost Value = { Plan };
+    ghost Value = { FilePlanView };
 
     ghost use Rattle.rz_file.specs.Inside.{plan_in, IsFilePlan};
 
@@ -164,7 +164,7 @@ impl FilePlan {
             reader,
             writer,
         } = self;
-        span.range = Range {
+        span.range = RangeProgress {
             info: *info,
             offset,
             size,
@@ -188,7 +188,7 @@ fn with_buffers(
     ensures found { IfOk result (λ s. vec_len s.found ≡ block_bytes_of layout) }
     ensures text { IfOk result (λ s. 2 * block_bytes_of layout ≤ vec_capacity s.text) }
 {
-    let range = Range {
+    let range = RangeProgress {
         info: blank(layout),
         offset: 0,
         size: 0,

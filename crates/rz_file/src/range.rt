@@ -10,14 +10,14 @@ use rz_events::{FileInfo, Key};
 
 /// A range of bytes of a file, of which so many are done.
 #[derive(Clone, Copy, Drop)]
-pub struct Range {
+pub struct RangeProgress {
     pub info: FileInfo,
     pub offset: u64,
     pub size: u64,
     pub done: u64,
 }
 
-impl Range {
+impl RangeProgress {
     /// The block in hand.
     pub fn key(&self, layout: Layout) -> Key
         requires { InRange self.now }

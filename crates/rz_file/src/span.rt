@@ -1,6 +1,6 @@
 //! A range in hand, with its bytes and the texts of its block.
 
-use crate::range::Range;
+use crate::range::RangeProgress;
 use rz_batch::Batch;
 use rz_events::FileEnd;
 
@@ -16,7 +16,7 @@ pub enum Aim {
 /// A range in hand.
 #[derive(Drop)]
 pub struct Span {
-    pub range: Range,
+    pub range: RangeProgress,
     pub aim: Aim,
     pub bytes: Vec<u8>,
     /// The bins of the blocks that the bytes to be written cover whole.

@@ -12,7 +12,7 @@ ghost use Rattle.rz_file.specs.Writing.{own_write};
 ghost use Rattle.rz_file.specs.Inside.{IsSpan, AreHands, IsFile, HasNoRecords, CanWrite, IsShortMark, size_of, range_in, state_of};
 
 use crate::block_writer::BlockWriter;
-use crate::range::Range;
+use crate::range::RangeProgress;
 use crate::span::{Aim, RangeStep, Span};
 use crate::texts::{patch, push_cut};
 use mj_angles::Layout;
@@ -66,7 +66,7 @@ fn give(layout: Layout, span: &mut Span, reader: &mut Reader, writer: &mut Block
 }
 
 /// The block in hand is read.
-fn read_block(layout: Layout, range: Range, reader: &mut Reader) -> RangeStep
+fn read_block(layout: Layout, range: RangeProgress, reader: &mut Reader) -> RangeStep
     requires layout { reader.old.state.layout ≡ layout }
     requires places { length range.info.places ≡ safe_of layout }
     requires range { InRange range }

@@ -7,8 +7,8 @@ use Rattle.rz_events.specs.declared.export.Call.TheVariants as call
 use Rattle.rz_journal_text.specs.declared.entry.Entry.{Entry as Said}
 use Rattle.rz_journal_text.specs.declared.entry.Entry.TheVariants as entry
 use Rattle.rz_journal_text.proofs.EntryLaws.{one_entry}
-use Rattle.rz_journal.specs.declared.half_opening.OpenFault.{OpenFault}
-use Rattle.rz_journal.specs.declared.half_opening.OpenFault.TheVariants as half
+use Rattle.rz_journal.specs.declared.half_opening.HalfFault.{HalfFault}
+use Rattle.rz_journal.specs.declared.half_opening.HalfFault.TheVariants as half
 use Rattle.rz_journal.specs.Row.{Entries, taken, EndsAt}
 use Rattle.rz_journal.specs.Stands.{half_bytes, half_at, IsJournal, IsHalfOpen}
 use Rattle.rz_journal.specs.HalfOpening.{IsHalf, Refuses, HoldsSoFar}
@@ -83,7 +83,7 @@ module _ (tells : Bool) (text : List ℕ) (image : List ℕ → Type 0) (half : 
   stopped BadHeader why = absurd why
   stopped (Damaged number) why = (is.size, λ told. (half, is.picked.1 told, subst (λ (b : List ℕ). IsDamagedAt volume b number) (is.same told) why))
 
-pub refused : (tells : Bool) (volume : Volume) (text : List ℕ) (fault : OpenFault) → Refuses tells text fault → IsJournalRefused tells volume text (fault_of fault)
+pub refused : (tells : Bool) (volume : Volume) (text : List ℕ) (fault : HalfFault) → Refuses tells text fault → IsJournalRefused tells volume text (fault_of fault)
 refused tells volume text half.NoMemory why = why
 refused tells volume text (half.WrongSize have need) why = why
 refused tells volume text half.DiskFault why = why
@@ -91,7 +91,7 @@ refused tells volume text half.Unformatted why = why
 refused tells volume text half.BadHeader why = why
 
 -- only a fault of a disk is one of its journal
-pub disk_fault : (fault : OpenFault) → fault_of fault ≡ DiskFault → fault ≡ half.DiskFault
+pub disk_fault : (fault : HalfFault) → fault_of fault ≡ DiskFault → fault ≡ half.DiskFault
 disk_fault half.NoMemory is = absurd (cc)
 disk_fault (half.WrongSize have need) is = absurd (cc)
 disk_fault half.DiskFault is = refl

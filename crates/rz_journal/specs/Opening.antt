@@ -9,8 +9,8 @@ use Rattle.rz_tree.specs.declared.parts.Part.{Part}
 use Rattle.rz_export.specs.Building.{with_part, made_of, MayFollow, AllFollow, ArePartsOf}
 use Rattle.rz_journal_text.specs.declared.entry.Entry.{Entry as Said}
 use Rattle.rz_journal_text.specs.declared.entry.Entry.TheVariants as entry
-use Rattle.rz_journal.specs.declared.half_opening.OpenFault.{OpenFault}
-use Rattle.rz_journal.specs.declared.half_opening.OpenFault.TheVariants as half
+use Rattle.rz_journal.specs.declared.half_opening.HalfFault.{HalfFault}
+use Rattle.rz_journal.specs.declared.half_opening.HalfFault.TheVariants as half
 use Rattle.rz_journal.specs.Stands.{disk_bytes, half_bytes, half_at, IsJournal}
 use Rattle.rz_journal.specs.HalfOpening.{Refuses}
 use Rattle.rz_journal.specs.declared.reading.EntryFound.TheVariants.{Entry}
@@ -130,7 +130,7 @@ IsJournalRefused tells volume text BadHeader = Refuses tells text half.BadHeader
 IsJournalRefused tells volume text (Damaged number) = (length text ≡ disk_bytes) × (IsTrue tells → HasDamagedAt volume text number)
 
 -- the fault of a disk as one of its journal
-abbrev pub fault_of : OpenFault → JournalFault
+abbrev pub fault_of : HalfFault → JournalFault
 fault_of half.NoMemory = NoMemory
 fault_of (half.WrongSize have need) = WrongSize have need
 fault_of half.DiskFault = DiskFault

@@ -38,7 +38,7 @@ mod walking;
 
 pub use entries::Entries;
 pub use framing::{close_row, push_entry};
-pub use half_opening::{Half, OpenFault};
+pub use half_opening::{Half, HalfFault};
 pub use journal::{Journal, JournalReply};
 pub use rebuilding::JournalFault;
 pub use said::entry_of;

@@ -10,7 +10,7 @@ ghost use Rattle.rz_journal.specs.Kept.{IsExportAfter};
 
 use crate::journal::{Journal, rules};
 use crate::rebuilding::{JournalFault, rebuild};
-use crate::{Half, OpenFault};
+use crate::{Half, HalfFault};
 use rz_config::Volume;
 use rz_disk::Disk;
 use std::alloc::Global;
@@ -64,14 +64,14 @@ impl<D: Disk> Journal<D> {
 }
 
 // The fault of the disk as one of the journal.
-fn refused(fault: OpenFault) -> JournalFault
+fn refused(fault: HalfFault) -> JournalFault
     ensures { result ≡ fault_of fault }
 {
     match fault {
-        OpenFault::NoMemory => JournalFault::NoMemory,
-        OpenFault::WrongSize { have, need } => JournalFault::WrongSize { have, need },
-        OpenFault::DiskFault => JournalFault::DiskFault,
-        OpenFault::Unformatted => JournalFault::Unformatted,
-        OpenFault::BadHeader => JournalFault::BadHeader,
+        HalfFault::NoMemory => JournalFault::NoMemory,
+        HalfFault::WrongSize { have, need } => JournalFault::WrongSize { have, need },
+        HalfFault::DiskFault => JournalFault::DiskFault,
+        HalfFault::Unformatted => JournalFault::Unformatted,
+        HalfFault::BadHeader => JournalFault::BadHeader,
     }
 }

@@ -16,9 +16,9 @@ use rz_scrub::Scrub;
 use rz_words::Block;
 use std::alloc::{AllocError, Global};
 
-/// Room to judge one block after another.
+/// Judges one block after another: the records that came of it, and the room for them.
 #[derive(Drop)]
-pub(crate) struct Desk {
+pub(crate) struct BlockJudge {
     layout: Layout,
     scrub: Scrub,
     block: Block,
@@ -30,14 +30,14 @@ pub(crate) struct Desk {
     ghost full: { vec_len room ≡ max_bins_of layout },
 }
 
-impl Desk {
-    pub(crate) fn new(alloc: Global, layout: Layout) -> Result<Desk, AllocError>
+impl BlockJudge {
+    pub(crate) fn new(alloc: Global, layout: Layout) -> Result<BlockJudge, AllocError>
         ensures { IfOk result (λ d. d.layout ≡ layout) }
     {
         let scrub = Scrub::start(alloc, layout)?;
         let block = Block::zero(alloc, layout.inverse(), layout.cols())?;
         let room = vec![in alloc; 0u64; layout.max_bins()]?;
-        Ok(Desk {
+        Ok(BlockJudge {
             layout,
             scrub,
             block,
@@ -76,42 +76,52 @@ impl Desk {
 }
 
 /// Asks one node of a block for its record, and adds what it gives.
-fn ask<S: ScrubbedStore>(store: &mut S, desk: &mut Desk, listed: &Listed, position: u8, node: u16)
+fn ask<S: ScrubbedStore>(
+    store: &mut S,
+    judge: &mut BlockJudge,
+    listed: &Listed,
+    position: u8,
+    node: u16,
+)
     requires ready { S.is_open store.old }
-    requires layout { (S.described store.old).layout ≡ desk.old.layout }
-    requires bare { bins_at desk.old.scrub position ≡ None }
-    ensures desk { desk.new.layout ≡ desk.old.layout }
-    ensures asked { HasAsked S.is_open S.described S.gives S.state S.counts S.only_asked store.old store.new (λ w next. IsRecordAsked (S.gives store.old) listed.now position node w next desk.old.scrub desk.new.scrub) }
+    requires layout { (S.described store.old).layout ≡ judge.old.layout }
+    requires bare { bins_at judge.old.scrub position ≡ None }
+    ensures judge { judge.new.layout ≡ judge.old.layout }
+    ensures asked { HasAsked S.is_open S.described S.gives S.state S.counts S.only_asked store.old store.new (λ w next. IsRecordAsked (S.gives store.old) listed.now position node w next judge.old.scrub judge.new.scrub) }
 {
     let stamp = listed.published.stamp;
-    let answer = store.fetch(node, listed.key, stamp, &mut desk.room);
+    let answer = store.fetch(node, listed.key, stamp, &mut judge.room);
     if let FetchAnswer::Held(_) = answer {
-        desk.add(position);
+        judge.add(position);
     }
 }
 
 /// Asks each node of a block for its record.
-fn gather<S: ScrubbedStore>(store: &mut S, desk: &mut Desk, listed: &Listed)
+fn gather<S: ScrubbedStore>(store: &mut S, judge: &mut BlockJudge, listed: &Listed)
     requires ready { S.is_open store.old }
-    requires layout { (S.described store.old).layout ≡ desk.old.layout }
-    requires bare { desk.old.scrub ≡ no_records desk.old.layout }
-    ensures desk { desk.new.layout ≡ desk.old.layout }
-    ensures asked { HasAsked S.is_open S.described S.gives S.state S.counts S.only_asked store.old store.new (λ w next. AreAsked (S.gives store.old) listed.now 0 listed.now.info.places w next (no_records desk.old.layout) desk.new.scrub) }
+    requires layout { (S.described store.old).layout ≡ judge.old.layout }
+    requires bare { judge.old.scrub ≡ no_records judge.old.layout }
+    ensures judge { judge.new.layout ≡ judge.old.layout }
+    ensures asked { HasAsked S.is_open S.described S.gives S.state S.counts S.only_asked store.old store.new (λ w next. AreAsked (S.gives store.old) listed.now 0 listed.now.info.places w next (no_records judge.old.layout) judge.new.scrub) }
 {
     let nodes = listed.info.places.list();
     for (i, node) in nodes.iter().enumerate() {
-        ask(store, desk, listed, i as u8, *node);
+        ask(store, judge, listed, i as u8, *node);
     }
 }
 
 /// Asks the nodes of a block, and judges what they give.
-pub(crate) fn find<S: ScrubbedStore>(store: &mut S, desk: &mut Desk, listed: &Listed) -> Finding
+pub(crate) fn find<S: ScrubbedStore>(
+    store: &mut S,
+    judge: &mut BlockJudge,
+    listed: &Listed,
+) -> Finding
     requires ready { S.is_open store.old }
-    requires layout { (S.described store.old).layout ≡ desk.old.layout }
-    ensures desk { desk.new.layout ≡ desk.old.layout }
-    ensures found { HasAsked S.is_open S.described S.gives S.state S.counts S.only_asked store.old store.new (λ w next. AreRecordsFound desk.old.layout (S.gives store.old) listed.now w result next) }
+    requires layout { (S.described store.old).layout ≡ judge.old.layout }
+    ensures judge { judge.new.layout ≡ judge.old.layout }
+    ensures found { HasAsked S.is_open S.described S.gives S.state S.counts S.only_asked store.old store.new (λ w next. AreRecordsFound judge.old.layout (S.gives store.old) listed.now w result next) }
 {
-    desk.clear();
-    gather(store, desk, listed);
-    desk.finding()
+    judge.clear();
+    gather(store, judge, listed);
+    judge.finding()
 }

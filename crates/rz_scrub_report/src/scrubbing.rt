@@ -4,7 +4,7 @@ ghost use Rattle.std.specs.Prelude.{IfOk};
 ghost use Rattle.rz_scrub_report.specs.Scrubs.{IsScrubbed};
 ghost use Rattle.rz_scrub_report.specs.Stores.{HasAsked};
 
-use crate::asking::{Desk, find};
+use crate::asking::{BlockJudge, find};
 use crate::line::push_line;
 use crate::store::ScrubbedStore;
 use std::alloc::{AllocError, Global};
@@ -16,11 +16,11 @@ pub fn scrub<S: ScrubbedStore>(alloc: Global, store: &mut S) -> Result<Vec<u8>, 
     ensures { HasAsked S.is_open S.described S.gives S.state S.counts S.only_asked store.old store.new (λ w next. IfOk result (λ text. IsScrubbed (S.described store.old).layout (S.gives store.old) w text.items next)) }
 {
     let layout = store.layout();
-    let mut desk = Desk::new(alloc, layout)?;
+    let mut judge = BlockJudge::new(alloc, layout)?;
     let mut text = Vec::new(alloc);
     let mut after = None;
     'blocks: while let Some(listed) = store.published(after) {
-        let finding = find(store, &mut desk, &listed);
+        let finding = find(store, &mut judge, &listed);
         push_line(alloc, &mut text, layout, listed.key, finding)?;
         after = Some(listed.key);
     }

@@ -25,7 +25,7 @@ returns-in-Held-clause-asked g c =
     let e = c.fetch-answer.ensures in
     has-one c.args.store.now c.fetch-answer.new.self (fetch_event Admin c.args.node l.key c.args.position l.published.stamp given)
     ((c.args.node, l.key, c.args.position, l.published.stamp, given, refl), tt) (e.onward c.args.position)
-    (λ w next. IsRecordAsked (g.S.ScrubbedStore.gives c.args.store.now) l c.args.position c.args.node w next c.args.desk.now.scrub c.add.new.self.scrub)
+    (λ w next. IsRecordAsked (g.S.ScrubbedStore.gives c.args.store.now) l c.args.position c.args.node w next c.args.judge.now.scrub c.add.new.self.scrub)
     (λ h. record {
       given = given;
       before = c.deref_mut.result.now;
@@ -41,16 +41,16 @@ returns-in_default g c =
     let given = c.fetch-answer.result in
     let e = c.fetch-answer.ensures in
     record {
-      desk = refl;
+      judge = refl;
       asked = has-one c.args.store.now c.fetch-answer.new.self (fetch_event Admin c.args.node l.key c.args.position l.published.stamp given)
           ((c.args.node, l.key, c.args.position, l.published.stamp, given, refl), tt) (e.onward c.args.position)
-          (λ w next. IsRecordAsked (g.S.ScrubbedStore.gives c.args.store.now) l c.args.position c.args.node w next c.args.desk.now.scrub c.args.desk.now.scrub)
+          (λ w next. IsRecordAsked (g.S.ScrubbedStore.gives c.args.store.now) l c.args.position c.args.node w next c.args.judge.now.scrub c.args.judge.now.scrub)
           (λ h. record {
             given = given;
             before = c.deref_mut.result.now;
             room = c.fetch-answer.new.room;
             fetched = e.fetched c.args.position h;
             read = e.read;
-            records = nothing-given given c.args.desk.now.scrub c.args.position c.fetch-answer.new.room c.in_default.not-Held;
+            records = nothing-given given c.args.judge.now.scrub c.args.position c.fetch-answer.new.room c.in_default.not-Held;
           });
     }

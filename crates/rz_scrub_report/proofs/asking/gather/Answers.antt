@@ -11,12 +11,12 @@ loop-i-init g c =
     let nodes = c.list-nodes.result.now in
     let l = c.args.listed.now in
     let gives = g.S.ScrubbedStore.gives c.args.store.now in
-    let layout = c.args.desk.now.layout in
+    let layout = c.args.judge.now.layout in
     record {
-      desk = refl;
+      judge = refl;
       bare = λ p low. ap (λ (s : Records). bins_at s p) c.requires.bare ∙ bare-at-first layout p;
       asked = has-none g.S.ScrubbedStore.itself c.args.store.now c.requires.ready
-          (λ w mid. (next : State) (t : Records) → AreAsked gives l 0 nodes mid next c.args.desk.now.scrub t → AreAsked gives l 0 nodes w next (no_records layout) t)
+          (λ w mid. (next : State) (t : Records) → AreAsked gives l 0 nodes mid next c.args.judge.now.scrub t → AreAsked gives l 0 nodes w next (no_records layout) t)
           (λ w next t rest. subst (λ (s : Records). AreAsked gives l 0 nodes w next s t) c.requires.bare rest);
     }
 
@@ -29,15 +29,15 @@ loop-i-preserved g c =
     let e = c.ask.ensures in
     let nodes = c.list-nodes.result.now in
     let n = get_or nodes c.loop-i.i 0 in
-    let s = c.loop-i.desk.scrub in
-    let s' = c.ask.new.desk.scrub in
+    let s = c.loop-i.judge.scrub in
+    let s' = c.ask.new.judge.scrub in
     record {
-      desk = e.desk ∙ i.desk;
+      judge = e.judge ∙ i.judge;
       bare = bare-after (e.asked.told []) i.bare;
       asked = has-then g.S.ScrubbedStore.then first c.loop-i.store c.ask.new.store
-          (λ w mid. (next : State) (t : Records) → AreAsked gives l c.loop-i.i (drop c.loop-i.i nodes) mid next s t → AreAsked gives l 0 nodes w next (no_records c.args.desk.now.layout) t)
+          (λ w mid. (next : State) (t : Records) → AreAsked gives l c.loop-i.i (drop c.loop-i.i nodes) mid next s t → AreAsked gives l 0 nodes w next (no_records c.args.judge.now.layout) t)
           (λ w next. IsRecordAsked (g.S.ScrubbedStore.gives c.loop-i.store) l c.loop-i.i n w next s s')
-          (λ w mid. (next : State) (t : Records) → AreAsked gives l (c.loop-i.i + 1) (drop (c.loop-i.i + 1) nodes) mid next s' t → AreAsked gives l 0 nodes w next (no_records c.args.desk.now.layout) t)
+          (λ w mid. (next : State) (t : Records) → AreAsked gives l (c.loop-i.i + 1) (drop (c.loop-i.i + 1) nodes) mid next s' t → AreAsked gives l 0 nodes w next (no_records c.args.judge.now.layout) t)
           i.asked e.asked
           (λ h mid now same before asked next t rest. before next t (asked-next gives l nodes c.loop-i.i mid now next s s' t c.loop-i-test.true (asked-before i.asked.onward.given asked) rest));
     }

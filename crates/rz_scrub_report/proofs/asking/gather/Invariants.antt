@@ -6,9 +6,9 @@ use Rattle.rz_scrub_report.proofs.asking.gather.Given as goal
 
 abbrev pub invariant-loop-i : goal.invariant-loop-i
 invariant-loop-i g l = record {
-  desk : l.desk.layout ≡ l.fn.desk.layout;
-  bare : (p : ℕ) → l.i ≤ p → bins_at l.desk.scrub p ≡ None;
+  judge : l.judge.layout ≡ l.fn.judge.layout;
+  bare : (p : ℕ) → l.i ≤ p → bins_at l.judge.scrub p ≡ None;
   asked : HasAsked g.S.ScrubbedStore.is_open g.S.ScrubbedStore.described g.S.ScrubbedStore.gives g.S.ScrubbedStore.state g.S.ScrubbedStore.counts g.S.ScrubbedStore.only_asked l.fn.store l.store
-      (λ w mid. (next : State) (t : Records) → AreAsked (g.S.ScrubbedStore.gives l.fn.store) l.listed l.i (drop l.i l.nodes) mid next l.desk.scrub t
-      → AreAsked (g.S.ScrubbedStore.gives l.fn.store) l.listed 0 l.nodes w next (no_records l.fn.desk.layout) t);
+      (λ w mid. (next : State) (t : Records) → AreAsked (g.S.ScrubbedStore.gives l.fn.store) l.listed l.i (drop l.i l.nodes) mid next l.judge.scrub t
+      → AreAsked (g.S.ScrubbedStore.gives l.fn.store) l.listed 0 l.nodes w next (no_records l.fn.judge.layout) t);
 }

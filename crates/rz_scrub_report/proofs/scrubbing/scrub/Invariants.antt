@@ -6,7 +6,7 @@ use Rattle.rz_scrub_report.proofs.scrubbing.scrub.Given as goal
 
 abbrev pub invariant-blocks-2 : goal.invariant-blocks-2
 invariant-blocks-2 g l = record {
-  desk : l.desk.layout ≡ l.layout;
+  judge : l.judge.layout ≡ l.layout;
   layout : l.layout ≡ (g.S.ScrubbedStore.described l.fn.store).layout;
   told : HasAsked g.S.ScrubbedStore.is_open g.S.ScrubbedStore.described g.S.ScrubbedStore.gives g.S.ScrubbedStore.state g.S.ScrubbedStore.counts g.S.ScrubbedStore.only_asked l.fn.store l.store
       (λ w mid. IsSoFar (g.S.ScrubbedStore.described l.fn.store).layout (g.S.ScrubbedStore.gives l.fn.store) w l.text.items l.after mid);

@@ -2,7 +2,7 @@ use Rattle.std.proofs.Common.{ℕ, ◌-◌, ◌≡◌, [], min, ap, ◌∙◌}
 use Rattle.std.proofs.Math.Nat.{min-eq_left, min-le_right}
 use Rattle.rz_operation_model.specs.Ranges.{Taking}
 use Rattle.rz_operation_model.specs.Files.{go_on}
-use Rattle.rz_file.specs.Machine.{Plan, begun, machine_with}
+use Rattle.rz_file.specs.Machine.{FilePlanView, begun, machine_with}
 use Rattle.rz_file.proofs.files.FileRead.start.Goals as goal
 
 -- what is cut already is not cut again
@@ -15,7 +15,7 @@ pub returns : goal.returns
 returns c =
     let left = c.args.info.now.size - c.args.offset in
     c.open.ensures
-    ∙ ap (λ (p : Plan). machine_with p.layout (begun p.layout c.args.info.now p.plan)) c.in_ok-plan.ensures
+    ∙ ap (λ (p : FilePlanView). machine_with p.layout (begun p.layout c.args.info.now p.plan)) c.in_ok-plan.ensures
     ∙ ap (λ (n : ℕ). machine_with c.args.layout (go_on c.args.layout
     (record { info = c.args.info.now; offset = c.args.offset; size = n; done = 0; aim = Taking [] })))
     (cut-twice c.min-size.result c.args.count left c.saturating_sub.result c.min-size.ensures c.saturating_sub.ensures)

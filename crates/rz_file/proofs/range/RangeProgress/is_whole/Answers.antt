@@ -1,6 +1,6 @@
 use Rattle.std.proofs.Common.{rules, ◌≡◌, ℕ, false, nat_eq, ◌&&◌, ap, sym, ◌∙◌}
 use Rattle.std.proofs.lemmas.Bool.Decides.{nat_tests}
-use Rattle.rz_file.proofs.range.Range.is_whole.Goals as goal
+use Rattle.rz_file.proofs.range.RangeProgress.is_whole.Goals as goal
 
 whole : (s n b s' n' b' : ℕ) → s ≡ s' → n ≡ n' → b ≡ b' → s ≡ 0 → nat_eq n b ≡ (nat_eq s' 0 && nat_eq n' b')
 whole s n b s' n' b' p q r z =
