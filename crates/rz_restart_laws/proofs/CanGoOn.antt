@@ -66,7 +66,7 @@ module _ (n : ℕ) (w : List Event) where
 -- ---- a node of the volume
 
 -- a start of the node, with its undecided change or without, makes its state that of the log
-abbrev IsStarted : List Event → ℕ → NodeState → Bool → Type 0
+abbrev pub IsStarted : List Event → ℕ → NodeState → Bool → Type 0
 IsStarted h n s took = (took ≡ true → (c : Change) × (undecided (node n h) ≡ Some c)) × IsNode (facts h) (e.Start n took ∷ at_rest n (node n h)) s
 
 module _ (v : Volume) (h : List Event) (legal : IsLegalInRuns v h) (n : ℕ) (text : List ℕ) (s : NodeState) (is : IsNodeFound v h n text s) (lost : s.losses ≡ losses (node n h)) where
@@ -114,7 +114,7 @@ module _ (v : Volume) (h : List Event) (legal : IsLegalInRuns v h) (n : ℕ) (te
   )
   by-settled are fence whole (Some c) some = (true, (λ it. (c, some), with-change are fence whole))
 
-  node-started : (took : Bool) × IsStarted h n s took
+  pub node-started : (took : Bool) × IsStarted h n s took
   node-started = go is.logged
     where
       go : StandsByLog v h n text → (took : Bool) × IsStarted h n s took
@@ -145,7 +145,7 @@ either-number : (b : Bool) (n m : ℕ) → (m == n) ≡ b → (m ≡ n) ⊎ (m �
 either-number true n m is = inl (eqb-true m n is)
 either-number false n m is = inr (λ same. (let z : (m == n) ≡ true = eq-eqb m n same in cc))
 
-there-or-not : (n : ℕ) (ns : List ℕ) → Stands n ns ⊎ (Stands n ns → ⊥)
+pub there-or-not : (n : ℕ) (ns : List ℕ) → Stands n ns ⊎ (Stands n ns → ⊥)
 there-or-not n [] = inr (λ there. there)
 there-or-not n (m ∷ ns) = go (either-number (m == n) n m refl) (there-or-not n ns)
   where

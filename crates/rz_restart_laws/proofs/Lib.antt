@@ -3,3 +3,5 @@ pub mod Restarts
 pub mod Lists
 pub mod Founds
 pub mod CanGoOn
+pub mod Returns
+pub mod Fences

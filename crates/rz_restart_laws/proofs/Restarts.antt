@@ -132,7 +132,7 @@ then v h mid old j k a b = record {
 pub wider : (v : Volume) (h old : List Event) (j k : ℕ) → j ≤ k → Quiet v h old j → Quiet v h old k
 wider v h old j k low a = record { legal = a.legal; facts_are = a.facts_are; export_word = a.export_word; few = (let x = a.few in omega (arith, x, low)) }
 
-word-short : (p : Event → Bool) (h : List Event) → length (filter p h) ≤ length h
+pub word-short : (p : Event → Bool) (h : List Event) → length (filter p h) ≤ length h
 word-short p [] = omega arith
 word-short p (x ∷ h) = go (p x) (word-short p h)
   where
