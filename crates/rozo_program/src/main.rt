@@ -9,10 +9,12 @@
 ghost use Rattle.std.specs.Prelude.{◌≡◌, IfOk, IsTrue, length};
 
 mod folder;
+mod idle;
 mod streams;
 mod telling;
 
 use folder::lock_folder;
+use idle::Recorded;
 use rz_disk::Disk;
 use rz_link::PlainLink;
 use rz_ports::{StdSink, StdSource};
@@ -27,7 +29,7 @@ use std::sync::Wait;
 use std::thread::Threads;
 use std::{env, io};
 use streams::Fillers;
-use telling::{tell_disks, tell_file, tell_lock, tell_status, tell_usage};
+use telling::{tell_disks, tell_file, tell_idle, tell_lock, tell_status, tell_usage};
 
 /// The words of the command line.
 fn words_of(rt: &HostRuntime) -> io::Result<Vec<String>> {
@@ -86,7 +88,7 @@ fn play_on_threads<T: Threads + Wait + Sync, D: Disk + Send>(
 
 /// Plays in turns what the words ask for.
 fn play_in_turns<D: Disk>(rt: &HostRuntime, words: &[String], mut disks: Vec<D>) -> Played<D> {
-    let mut input = StdSource::new(rt.reader());
+    let mut input = Recorded::new(rt.alloc(), StdSource::new(rt.reader()));
     let mut output = StdSink::new(io::writer(rt));
     let mut link = PlainLink::new();
     let played = replay(
@@ -97,6 +99,9 @@ fn play_in_turns<D: Disk>(rt: &HostRuntime, words: &[String], mut disks: Vec<D>)
         &mut disks,
         &mut link,
     );
+    if played.status == Status::DONE && played.log.is_empty() && input.has_operations(rt.alloc()) {
+        tell_idle(rt);
+    }
     Played {
         status: played.status,
         disks,
@@ -202,7 +207,7 @@ fn perform<T: Threads + Wait + Sync>(threads: &T, rt: &HostRuntime, words: &[Str
     match wanted(rt.alloc(), words) {
         Ok(wanted) => play_wanted(threads, rt, words, &wanted),
         Err(WordsError::Usage) => {
-            tell_usage(rt);
+            tell_usage(rt, words);
             play_in_memory(threads, rt, words, Command::Replay, 0)
         }
         Err(WordsError::NoMemory) => Status::NO_MEMORY,

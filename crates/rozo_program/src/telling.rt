@@ -1,34 +1,77 @@
-//! What is said on standard error: the causes for which standard output has no words. Where it can't be written,
-//! nobody is told.
+//! What is said on standard error: the causes for which standard output has no words. Where it can't be written, or
+//! there is no memory, nobody is told.
 
 use crate::folder::LockFault;
 use rz_disk::FileDisk;
-use rz_request::Status;
+use rz_request::{Status, parse};
+use std::alloc::{AllocError, Global};
 use std::io;
+
+/// Which words there are.
+const USAGE: &str = "\
+rozo replay --disks N [--dir FOLDER] < SCRIPT    plays a script over N new disks, in turns
+rozo run --disks N [--dir FOLDER] < SCRIPT       plays it with a thread for each client and rebuilder
+rozo scrub --disks N [--dir FOLDER] < SCRIPT     plays it, and then looks at each block's records
+rozo first --disks N --dir FOLDER < SCRIPT       begins a store that is kept: one disk more, for its journal
+rozo again --disks N --dir FOLDER < SCRIPT       goes on with such a store
+rozo load SEED --disks 16 [--dir FOLDER]         plays a large script that is made from a number
+rozo migrate SID --disks 2 --dir FOLDER < VOLUME carries an old disk of a node over onto a new one";
+
+/// A text with its control characters spelled, but for the ends of lines: so no terminal obeys a name.
+fn printable(alloc: Global, text: &str) -> Result<String, AllocError> {
+    let mut out = String::new(alloc);
+    for c in text.chars() {
+        if c.is_control() && c != '\n' {
+            for spelled in c.escape_default() {
+                out.push(spelled)?;
+            }
+        } else {
+            out.push(c)?;
+        }
+    }
+    Ok(out)
+}
+
+/// Writes a line.
+fn tell(rt: &HostRuntime, line: Result<String, AllocError>) {
+    let Ok(line) = line else {
+        return;
+    };
+    if let Ok(line) = printable(rt.alloc(), line.as_str()) {
+        let _ = eprintln!(rt; "{line}");
+    }
+}
 
 /// Says why a folder is not locked.
 pub fn tell_lock(rt: &HostRuntime, path: &str, fault: &LockFault) {
-    let _ = match fault {
-        LockFault::Held => eprintln!(rt; "rozo: another program uses the folder {path}"),
+    let alloc = rt.alloc();
+    let line = match fault {
+        LockFault::Held => format!(in alloc; "rozo: another program uses the folder {path}"),
         LockFault::System(error) => {
-            eprintln!(rt; "rozo: the folder {path} can't be locked: {error}")
+            format!(in alloc; "rozo: the folder {path} can't be locked: {error}")
         }
     };
+    tell(rt, line);
 }
 
 /// Says why the file of a disk can't be opened, as the system says it.
 pub fn tell_file(rt: &HostRuntime, folder: &str, index: u16, error: &io::Error) {
-    let _ = eprintln!(rt; "rozo: {folder}/disk.{index}: {error}");
+    let alloc = rt.alloc();
+    tell(
+        rt,
+        format!(in alloc; "rozo: {folder}/disk.{index}: {error}"),
+    );
 }
 
 /// Says of each disk whose file failed what the system said of the last call that it failed.
 pub fn tell_disks(rt: &HostRuntime, disks: &[FileDisk<'_, HostRuntime>]) {
+    let alloc = rt.alloc();
     for disk in disks {
         let Some(error) = disk.last_error() else {
             continue;
         };
         let path = disk.path();
-        let _ = eprintln!(rt; "rozo: {path}: {error}");
+        tell(rt, format!(in alloc; "rozo: {path}: {error}"));
     }
 }
 
@@ -45,13 +88,25 @@ pub fn tell_status(rt: &HostRuntime, status: u8) {
     };
 }
 
-/// Says which words there are.
-pub fn tell_usage(rt: &HostRuntime) {
+/// Says what is wrong with which word, as `clap` says it, and which words there are. Whoever asks for help is told
+/// these alone.
+pub fn tell_usage(rt: &HostRuntime, words: &[String]) {
+    let alloc = rt.alloc();
+    match parse(alloc, words) {
+        Ok(_) => {
+            let _ = eprintln!(rt;
+                "error: a number has digits alone, and FOLDER begins with no hyphen\n"
+            );
+        }
+        Err(error) if error.use_stderr() => tell(rt, format!(in alloc; "{error}")),
+        Err(_) => {}
+    }
+    let _ = eprintln!(rt; "{USAGE}");
+}
+
+/// Says that nothing was played although there is something to do.
+pub fn tell_idle(rt: &HostRuntime) {
     let _ = eprintln!(rt;
-        "rozo replay|run|scrub --disks N [--dir FOLDER] < SCRIPT\n\
-        rozo first|again --disks N --dir FOLDER < SCRIPT      (one disk more, for the journal)\n\
-        rozo load SEED --disks 16 [--dir FOLDER]\n\
-        rozo migrate SID --disks 2 --dir FOLDER < VOLUME\n\
-        N is the number of disks. A script is read from standard input."
+        "rozo: no line of the script lets its operations go on; put `rest` at its end"
     );
 }

@@ -18,11 +18,12 @@
 //!
 //! The contract of [`wanted`] says what the words of the command line mean: the command, the number of disks and
 //! the folder that they state, and that `Usage` comes exactly where they are not of the form of `specs/Line`.
-//! The line is read twice: by this crate, which decides its form, and by `clap`, which takes more than that
-//! form. The contract does not say that `clap` takes every line of the form, so a line of the form that it
-//! refused would count as want of memory; the tests show that it takes each order and spelling.
+//! The line is read by `clap`, whose command, number, disks and folder are answered, and judged by this crate, which
+//! decides its form: `clap` takes more than that. Both have to say the same. The contract does not say that they do, so a
+//! line of the form of which `clap` said another thing would count as want of memory; the tests show that it takes each
+//! order and spelling. [`parse`] is what `clap` says, whose texts tell a person what is wrong with which word.
 //!
-//! In reading order: the words in `command`, `items`, `numbers`, `line`, `parser`, `wanting`; what they ask for
+//! In reading order: the words in `command`, `items`, `numbers`, `line`, `parser`, `taking`, `wanting`; what they ask for
 //! in `status`, `refusal`, `causes`, `input`, `reading`, `wishes`, `asking`, `running`; an old disk in `old`, `outcome`,
 //! `carrying`, `migrating`.
 #![tactic(auto)]
@@ -43,6 +44,7 @@ mod reading;
 mod refusal;
 mod running;
 mod status;
+mod taking;
 mod wanting;
 mod wishes;
 
@@ -51,6 +53,7 @@ pub use command::{Command, Wanted, WordsError};
 pub use migrating::migrate;
 pub use old::{OldNode, migration};
 pub use outcome::Migrated;
+pub use parser::parse;
 pub use refusal::{Refusal, Stop};
 pub use running::run_script;
 pub use status::Status;

@@ -1,11 +1,12 @@
 //! The reading of the words.
 
-ghost use Rattle.std.specs.Prelude.{◌≡◌, IfOk, map, option_map, string_bytes};
-ghost use Rattle.rz_request.specs.Line.{Answers, meaning};
+ghost use Rattle.std.specs.Prelude.{◌≡◌, IfOk, Some, map, option_map, string_bytes};
+ghost use Rattle.rz_request.specs.Line.{Answers, meaning, seen};
 
 use crate::command::{Wanted, WordsError};
-use crate::line::read_line;
+use crate::line::{Line, read_line};
 use crate::parser::parse;
+use crate::taking::{is_same, taken};
 use std::alloc::{AllocError, Global};
 
 /// A folder of its own.
@@ -15,6 +16,20 @@ fn own(alloc: Global, folder: Option<&str>) -> Result<Option<String>, AllocError
     match folder {
         Some(path) => Ok(Some(String::from_str(alloc, path)?)),
         None => Ok(None),
+    }
+}
+
+/// What a line wants.
+fn wish_for(alloc: Global, line: &Line) -> Result<Wanted, WordsError>
+    ensures { Answers (Some (seen line.now)) result }
+{
+    match own(alloc, line.folder) {
+        Ok(folder) => Ok(Wanted {
+            command: line.command,
+            disks: line.disks,
+            folder,
+        }),
+        Err(_) => Err(WordsError::NoMemory),
     }
 }
 
@@ -29,18 +44,11 @@ pub fn wanted(alloc: Global, words: &[String]) -> Result<Wanted, WordsError>
     let Some(line) = read_line(words) else {
         return Err(WordsError::Usage);
     };
-    let parsed = parse(alloc, words);
-    let is_taken = parsed.is_ok();
-    drop(parsed);
-    if !is_taken {
+    let Ok(matches) = parse(alloc, words) else {
         return Err(WordsError::NoMemory);
-    }
-    match own(alloc, line.folder) {
-        Ok(folder) => Ok(Wanted {
-            command: line.command,
-            disks: line.disks,
-            folder,
-        }),
-        Err(_) => Err(WordsError::NoMemory),
+    };
+    match taken(&matches) {
+        Some(taken) if is_same(&taken, &line) => wish_for(alloc, &taken),
+        _ => Err(WordsError::NoMemory),
     }
 }

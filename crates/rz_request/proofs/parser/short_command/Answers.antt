@@ -10,7 +10,8 @@ more name a = with_subcommand a (plain name).top
 
 pub returns : goal.returns
 returns c =
-    let top_is : app_of c.subcommand_required-none.result ≡ top = ap app_of_fields c.subcommand_required-none.ensures ∙ search rules in
+    let bare : app_of c.subcommand_required.result ≡ top = ap app_of_fields c.subcommand_required.ensures ∙ search rules in
+    let top_is = ap app_of_fields c.in_ok-none.ensures.0 ∙ bare in
     let one = c.in_ok-one.ensures ∙ ap (more (codes "replay")) top_is in
     let two = c.in_ok-two.ensures ∙ ap (more (codes "run")) one in
     let three = c.in_ok-three.ensures ∙ ap (more (codes "scrub")) two in
