@@ -6,7 +6,7 @@ ghost use Rattle.mj_angles.specs.declared.layout.Layout.TheVariants.{L2};
 ghost use Rattle.mj_inverse.specs.Fits.{empty_search};
 
 use mj_angles::Layout;
-use mj_forward::project;
+use mj_forward::{project, project_eight};
 use mj_inverse::{Inconsistent, Work, WorkEight};
 use rz_words::Block;
 use std::alloc::{AllocError, Global};
@@ -135,5 +135,31 @@ fn one_of_eight(rt: HostRuntime) -> Result<(), Fail> {
     drop(bins);
     drop(work);
     assert_eq!(rt; (failed, last), (8, 0));
+    Ok(())
+}
+
+/// Eight copies of one block come back from their projections side by side.
+#[test]
+fn eight_copies(rt: HostRuntime) -> Result<(), Fail> {
+    let mut words = vec![in rt.alloc(); 0u64; 4096].expect(&rt, "memory");
+    for (place, word) in words.iter_mut().enumerate() {
+        *word = place as u64 / 8;
+    }
+    let mut left = vec![in rt.alloc(); 0u64; 2064].expect(&rt, "memory");
+    project_eight(&words, 2, 256, -2, &mut left);
+    let mut next = vec![in rt.alloc(); 0u64; 2056].expect(&rt, "memory");
+    project_eight(&words, 2, 256, -1, &mut next);
+    let mut work = WorkEight::new(rt.alloc(), 2, 256).expect(&rt, "memory");
+    work.add(-2, &left);
+    work.add(-1, &next);
+    let mut out = vec![in rt.alloc(); 9u64; 4096].expect(&rt, "memory");
+    let failed = work.solve(&mut out);
+    let are_back = out == words;
+    drop(out);
+    drop(work);
+    drop(next);
+    drop(left);
+    drop(words);
+    assert!(rt; failed == 0 && are_back);
     Ok(())
 }

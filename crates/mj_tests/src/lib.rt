@@ -8,6 +8,8 @@ mod batches;
 #[cfg(test)]
 mod inversions;
 #[cfg(test)]
+mod lanes;
+#[cfg(test)]
 mod layouts;
 #[cfg(test)]
 mod phantoms;
