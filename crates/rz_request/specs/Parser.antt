@@ -1,5 +1,5 @@
 -- The command line as clap's definitions see it.
-use Rattle.std.specs.Prelude.{ℕ, codes, Bool, List, [], ◌∷◌, Some, false, true}
+use Rattle.std.specs.Prelude.{ℕ, Bool, Some, codes, false, true}
 use Rattle.clap.specs.Walk.{Rule, Text}
 use Rattle.clap.specs.Simple.{App, new_app, new_rule, with_rule, with_subcommand, on_top}
 use Rattle.clap.specs.declared.builder.action.ArgAction.TheVariants.{Set}
