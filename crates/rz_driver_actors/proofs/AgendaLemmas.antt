@@ -30,17 +30,6 @@ no-work s (Reading course r) = refl
 no-work s (Rebuilding n r) = refl
 no-work s (Ending answer) = refl
 
-over-is : (work : Work) → is_over work ≡ true → work ≡ Over
-over-is Over is = refl
-over-is (Calling c) is = absurd (cc)
-over-is (Dropping fid n places) is = absurd (cc)
-over-is (Opening path plan) is = absurd (cc)
-over-is (Locking path plan) is = absurd (cc)
-over-is (Writing course text w) is = absurd (cc)
-over-is (Reading course r) is = absurd (cc)
-over-is (Rebuilding n r) is = absurd (cc)
-over-is (Ending answer) is = absurd (cc)
-
 -- the next operation
 pub next-work : (s : Agenda) (work : Work) (op : Operation) (ops : List Operation) → is_over work ≡ true → begin_next s work (op ∷ ops) ≡ record s { todo = ops; number = s.number + 1; work = begun op }
 next-work s Over op ops is = refl

@@ -1,15 +1,11 @@
 //! Words of an actor's own.
-ghost use Rattle.std.specs.Prelude.{◌≡◌, ◌<◌, Bool, IfOk, OnErr};
-ghost use Rattle.rz_events.specs.declared.keys.Key.{Key as AKey};
-ghost use Rattle.rz_operation_model.specs.Ask.{ask_of, Say, SayGot};
-ghost use Rattle.rz_operation_model.specs.Steps.{read_end};
-ghost use Rattle.rz_operation.specs.Machine.{text_of};
+ghost use Rattle.std.specs.Prelude.{◌≡◌, ◌<◌, IfOk, OnErr};
 ghost use Rattle.rz_driver_asks.specs.Parts.{IsSayPart};
 
-use rz_events::{Actor, Event, ReadEnd, ReadMark, Text};
+use rz_events::{Actor, Event};
 use rz_log::{Halted, Log};
 use rz_operation::{Ask, Machine, Saying};
-use std::alloc::{AllocError, Global};
+use std::alloc::Global;
 
 /// Says what a machine is about to say, and answers whether that was the answer of its operation.
 ///
@@ -27,7 +23,7 @@ pub fn say(
 {
     match machine.next() {
         Ask::Say(Saying::Got { key, part, mark }) => {
-            let end = end_of(alloc, machine, mark)?;
+            let end = machine.read_end(alloc, mark)?;
             log.note(Event::Got {
                 by,
                 number,
@@ -60,27 +56,5 @@ pub fn say(
             Ok(true)
         }
         Ask::Export(_) | Ask::Lock { .. } | Ask::Node { .. } | Ask::Rest => Err(Halted),
-    }
-}
-
-/// How a read ended, with the text that it found.
-fn end_of(alloc: Global, machine: &Machine, mark: ReadMark) -> Result<ReadEnd, AllocError>
-    requires asked { (key : AKey) × (part : Bool) × (ask_of machine.now.layout machine.now.work ≡ Say (SayGot key part mark)) }
-    ensures end { IfOk result (λ end. end ≡ read_end (text_of machine.now) mark) }
-{
-    match mark {
-        ReadMark::Found { stamp, length } => {
-            let mut text = Vec::from_elem(alloc, 0, length as usize)?;
-            machine.text_into(&mut text);
-            Ok(ReadEnd::Found {
-                stamp,
-                text: Text::from_vec(text),
-            })
-        }
-        ReadMark::Hole => Ok(ReadEnd::Hole),
-        ReadMark::TooFew { seen } => Ok(ReadEnd::TooFew { seen }),
-        ReadMark::Inconsistent => Ok(ReadEnd::Inconsistent),
-        ReadMark::Denied(why) => Ok(ReadEnd::Denied(why)),
-        ReadMark::Moved { was, now } => Ok(ReadEnd::Moved { was, now }),
     }
 }

@@ -1,16 +1,16 @@
 -- One ask more of nodes, or none.
 use Rattle.std.proofs.Common.{◌∙◌, refl, ℕ, List, [], ◌∷◌}
 use Rattle.rz_nodes.specs.declared.formatting.Server.{Server}
-use Rattle.rz_driver_nodes.specs.Asked.{IsOnlyAsked, AreOnlyAsked}
+use Rattle.rz_driver_nodes.specs.Asked.{IsServerOnlyAsked, AreOnlyAsked}
 
-pub one-itself : {D : Type 0} (text : D → List ℕ) (image : D → List ℕ → Type 0) (s : Server D) → IsOnlyAsked text image s s
+pub one-itself : {D : Type 0} (text : D → List ℕ) (image : D → List ℕ → Type 0) (s : Server D) → IsServerOnlyAsked text image s s
 one-itself text image s = record { called = record { sid = refl; pick = refl; geometry = refl }; fence = refl; text_is = refl; within = λ c has. has }
 
 pub all-themselves : {D : Type 0} (text : D → List ℕ) (image : D → List ℕ → Type 0) (xs : List (Server D)) → AreOnlyAsked text image xs xs
 all-themselves text image [] = tt
 all-themselves text image (s ∷ xs) = (one-itself text image s, all-themselves text image xs)
 
-one-then : {D : Type 0} (text : D → List ℕ) (image : D → List ℕ → Type 0) (a b c : Server D) → IsOnlyAsked text image a b → IsOnlyAsked text image b c → IsOnlyAsked text image a c
+one-then : {D : Type 0} (text : D → List ℕ) (image : D → List ℕ → Type 0) (a b c : Server D) → IsServerOnlyAsked text image a b → IsServerOnlyAsked text image b c → IsServerOnlyAsked text image a c
 one-then text image a b c p q = record {
   called = record { sid = q.called.sid ∙ p.called.sid; pick = q.called.pick ∙ p.called.pick; geometry = q.called.geometry ∙ p.called.geometry };
   fence = q.fence ∙ p.fence;

@@ -32,7 +32,7 @@ use Rattle.rz_scrub_report.specs.Stores.{AreBinsRead}
 use Rattle.rz_nodes.specs.declared.formatting.Server.{Server}
 use Rattle.rz_driver_nodes.specs.Fetches.{HaveRoom, IsFetch, GivesAt, GivesIn}
 use Rattle.rz_driver_nodes.specs.Meters.{AreMetered, GoesAsServer}
-use Rattle.rz_driver_nodes.specs.Asked.{IsOnlyAsked, AreOnlyAsked}
+use Rattle.rz_driver_nodes.specs.Asked.{IsServerOnlyAsked, AreOnlyAsked}
 use Rattle.rz_driver_nodes.specs.Images.{AreDisksImaged, fused_image}
 use Rattle.rz_driver_nodes.specs.Servers.{IsServerAt, IsCalled, IsNowhere, IsServer, numbers_of, state_in}
 use Rattle.rz_nodes.specs.Formatted.{disks_of}
@@ -123,10 +123,10 @@ module _ {D : Type 0} where
 
   -- ---- the node at a place
 
-  pub only-set : (text : D → List ℕ) (image : D → List ℕ → Type 0) (xs : List (Server D)) (place : ℕ) (s s' : Server D) → slice_get xs place ≡ Some s → IsOnlyAsked text image s s'
+  pub only-set : (text : D → List ℕ) (image : D → List ℕ → Type 0) (xs : List (Server D)) (place : ℕ) (s s' : Server D) → slice_get xs place ≡ Some s → IsServerOnlyAsked text image s s'
       → AreOnlyAsked text image xs (set xs place s')
   only-set text image [] place s s' is asked = tt
-  only-set text image (x ∷ xs) zero s s' is asked = (subst (λ (y : Server D). IsOnlyAsked text image y s') (sym (the-one x s is)) asked, all-themselves text image xs)
+  only-set text image (x ∷ xs) zero s s' is asked = (subst (λ (y : Server D). IsServerOnlyAsked text image y s') (sym (the-one x s is)) asked, all-themselves text image xs)
   only-set text image (x ∷ xs) (suc place) s s' is asked = (one-itself text image x, only-set text image xs place s s' is asked)
 
   pub at-fetch : (key : Key) (stamp : ℕ) (given : FetchAnswer) (n place : ℕ) (xs : List (Server D)) (s s' : Server D) → IsServerAt xs n place → slice_get xs place ≡ Some s
@@ -168,15 +168,15 @@ module _ {D : Type 0} where
 
   -- where a node stands afterwards one stood before
   before-at : (text : D → List ℕ) (image : D → List ℕ → Type 0) (xs ys : List (Server D)) (n p : ℕ) (t : Server D) → AreOnlyAsked text image xs ys → IsServerAt ys n p → slice_get ys p ≡ Some t
-      → (s : Server D) × IsServerAt xs n p × (slice_get xs p ≡ Some s) × IsOnlyAsked text image s t
+      → (s : Server D) × IsServerAt xs n p × (slice_get xs p ≡ Some s) × IsServerOnlyAsked text image s t
   before-at text image xs [] n p t all at is = absurd at
   before-at text image [] (y ∷ ys) n p t all at is = absurd all
-  before-at text image (x ∷ xs) (y ∷ ys) n zero t all at is = (x, sym all.0.called.sid ∙ at, refl, subst (λ (z : Server D). IsOnlyAsked text image x z) (the-one y t is) all.0)
+  before-at text image (x ∷ xs) (y ∷ ys) n zero t all at is = (x, sym all.0.called.sid ∙ at, refl, subst (λ (z : Server D). IsServerOnlyAsked text image x z) (the-one y t is) all.0)
   before-at text image (x ∷ xs) (y ∷ ys) n (suc p) t all at is =
       let more = before-at text image xs ys n p t all.1 at.1 is in
       (more.0, ((λ same. at.0 (all.0.called.sid ∙ same)), more.1), more.2, more.3)
 
-  back-at : (tells : Bool) (text : D → List ℕ) (image : D → List ℕ → Type 0) (s t : Server D) → IsOnlyAsked text image s t → (key : Key) (told : Held) (a b : List ℕ) → GivesAt tells text t key told a b
+  back-at : (tells : Bool) (text : D → List ℕ) (image : D → List ℕ → Type 0) (s t : Server D) → IsServerOnlyAsked text image s t → (key : Key) (told : Held) (a b : List ℕ) → GivesAt tells text t key told a b
       → GivesAt tells text s key told a b
   back-at tells text image s t asked key told a b gives tells_it =
       subst (λ (x : List ℕ). IsFetchedFromDisk s.node.geometry s.node.state.fence x key told a b) asked.text_is

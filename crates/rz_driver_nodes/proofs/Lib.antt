@@ -1,5 +1,4 @@
 pub mod Rows
-mod Asks
 pub mod Fits
 pub mod EventWords
 pub mod MeterLemmas

@@ -1,9 +1,7 @@
 -- A message to a node, beside the log.
-use Rattle.std.proofs.Common.{◌≡◌, ◌≢◌, ℕ, Bool, true, false, List, [], ◌∷◌, ◌++◌, Option, Some, None, refl, sym, ◌∙◌, ap, subst}
-use Rattle.std.specs.Prelude.{IfSome}
+use Rattle.std.proofs.Common.{◌≡◌, ◌≢◌, ℕ, Bool, true, false, List, [], ◌∷◌, ◌++◌, Some, None, refl, sym, ◌∙◌, ap, subst}
 use Rattle.mj_angles.specs.declared.layout.Layout.{Layout}
 use Rattle.rz_events.specs.Volume.{Volume}
-use Rattle.rz_events.specs.Events.{word_of}
 use Rattle.rz_events.specs.declared.keys.Actor.{Actor}
 use Rattle.rz_events.specs.declared.keys.Key.{Key}
 use Rattle.rz_events.specs.declared.ends.ReadMark.TheVariants as mark
@@ -13,7 +11,6 @@ use Rattle.rz_events.specs.declared.nodes.NodeAsk.TheVariants as ask
 use Rattle.rz_events.specs.declared.nodes.NodeAnswer.{NodeAnswer}
 use Rattle.rz_events.specs.declared.nodes.NodeAnswer.TheVariants as answer
 use Rattle.rz_events.specs.declared.nodes.ReplaceAnswer.TheVariants as replace
-use Rattle.rz_events.specs.declared.events.Word.TheVariants.{Node}
 use Rattle.rz_events.specs.declared.events.Event.{Event}
 use Rattle.rz_events.specs.declared.events.Event.TheVariants as e
 use Rattle.rz_node_model.specs.Answers.{IsNodeAnswer}
@@ -25,7 +22,8 @@ use Rattle.rz_node.specs.View.{NodeView}
 use Rattle.rz_node.specs.Leaves.{Leaves}
 use Rattle.rz_core.specs.History.{Facts, facts}
 use Rattle.rz_operation.specs.Answers.{IsWorkAfter, IsAnswerTo, FitsIfEnough}
-use Rattle.rz_operation.specs.Machine.{Machine, HasBinsFor}
+use Rattle.rz_operation.specs.Machine.{Machine}
+use Rattle.rz_operation.proofs.NodeAsks.{IsBinful}
 use Rattle.rz_operation_model.specs.Ask.{Ask, AskExport, AskNode, AskLock, Say, Rest, SayGot, SayGave, SayLeft, SayDone, ask_of}
 use Rattle.rz_operation_model.specs.Steps.{Missed}
 use Rattle.rz_operation_model.specs.Turns.{IsStep, ReplyLost, goes_by_link}
@@ -35,7 +33,6 @@ use Rattle.rz_block_laws.specs.Laws.{IsMessage, IsFittingLaw}
 use Rattle.rz_block_laws.specs.Turns.{HasInHand, IsTrueActor, IsHeard, IsHeardLaw, IsToldLaw}
 use Rattle.rz_driver_nodes.specs.Nodes.{IsAsked, IsFetchOf}
 use Rattle.rz_driver_nodes.specs.Images.{HasImages, NodeStaysCoherent, NodeUnchanged}
-use Rattle.rz_driver_nodes.proofs.EventWords.{node-word}
 use Rattle.rz_driver_nodes.proofs.Fits.{is_bad}
 
 -- ---- events of nodes
@@ -111,22 +108,6 @@ never-bad v fitting f m hand = go (is_bad (ask_of m.layout m.work)) refl
     go true is = absurd (bad-said (ask_of m.layout m.work) is (λ key part. (fitting f m hand key).0 part) (λ key. (fitting f m hand key).1))
 
 -- ---- the bins that are handed to a node
-
--- what a node is not to keep comes without bins
-abbrev pub IsBinless : NodeAsk → Type 0
-IsBinless (ask.Keep head) = ⊥
-IsBinless (ask.Refill fence head) = ⊥
-IsBinless question = Unit {0}
-
-abbrev pub IsBinful : NodeAsk → Type 0
-IsBinful (ask.Keep head) = Unit {0}
-IsBinful (ask.Refill fence head) = Unit {0}
-IsBinful question = ⊥
-
-pub no-bins : (question : NodeAsk) → IsBinless question → HasBinsFor question → ⊥
-no-bins (ask.Keep head) none has = none
-no-bins (ask.Refill fence head) none has = none
-no-bins question none has = has
 
 -- what a node leaves of its disk when it is to keep a record does not depend on the bins afterwards
 pub any-bins : (g : Geometry) (s : NodeState) (question : NodeAsk) (given : NodeAnswer) → IsBinful question → (own handed after after' text text' : List ℕ) (image image' : List ℕ → Type 0) → own ≡ handed

@@ -1,10 +1,8 @@
 -- What a message to a node makes of the parts that it uses.
-use Rattle.std.specs.Prelude.{ℕ, Bool, true, false, ◌≡◌, ◌<◌, List, ◌∷◌, Some}
+use Rattle.std.specs.Prelude.{ℕ, Bool, true, false, ◌≡◌, List, ◌∷◌, Some}
 use Rattle.mj_angles.specs.declared.layout.Layout.{Layout}
-use Rattle.mj_angles.specs.Layout.{safe_of}
 use Rattle.rz_events.specs.declared.keys.Actor.{Actor}
 use Rattle.rz_events.specs.declared.nodes.NodeAsk.{NodeAsk}
-use Rattle.rz_events.specs.declared.nodes.NodeAsk.TheVariants as ask
 use Rattle.rz_events.specs.declared.nodes.NodeAnswer.{NodeAnswer}
 use Rattle.rz_events.specs.declared.nodes.NodeAnswer.TheVariants as answer
 use Rattle.rz_events.specs.declared.events.Event.{Event}
@@ -24,11 +22,6 @@ use Rattle.rz_driver_asks.specs.Parts.{IsMachineTold, IsNoted}
 -- the machine asks this of the node
 abbrev pub IsAsked : Machine → ℕ → NodeAsk → Type 0
 IsAsked m n question = ask_of m.layout m.work ≡ AskNode n question
-
--- what is fetched lies at a position of the layout
-abbrev pub IsPlaced : Layout → NodeAsk → Type 0
-IsPlaced layout (ask.Fetch key position stamp) = position < safe_of layout
-IsPlaced layout question = Unit {0}
 
 -- a record that was fetched is one of the layout, as far as its answer tells
 abbrev pub IsFetchOf : Layout → NodeAnswer → Type 0

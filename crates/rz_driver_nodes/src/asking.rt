@@ -10,7 +10,7 @@ ghost use Rattle.rz_node_model.specs.NodeEvents.{fetch_event};
 ghost use Rattle.rz_scrub_report.specs.Stores.{AreBinsRead};
 ghost use Rattle.rz_driver_nodes.specs.Meters.{AreMetered, CarriesCounts, GoesAsServer};
 ghost use Rattle.rz_driver_nodes.specs.Fetches.{GivesAt, GivesIn, HaveRoom, IsFetch};
-ghost use Rattle.rz_driver_nodes.specs.Asked.{IsOnlyAsked, AreOnlyAsked};
+ghost use Rattle.rz_driver_nodes.specs.Asked.{IsServerOnlyAsked, AreOnlyAsked};
 
 use crate::server::find;
 use rz_disk::Disk;
@@ -44,7 +44,7 @@ fn fetch<D: Disk>(server: &mut Server<D>, key: Key, stamp: u64, room: &mut [u64]
     requires { max_bins_of server.old.node.geometry.layout ≤ length room.old }
     ensures given { IsFetchAnswer (fetch_answer server.old.node.state key stamp) result }
     ensures after { server.new.node.state ≡ after_fetch result server.old.node.state }
-    ensures asked { IsOnlyAsked D.text D.image server.old server.new }
+    ensures asked { IsServerOnlyAsked D.text D.image server.old server.new }
     ensures read { AreBinsRead (GivesAt D.tells D.text server.old key) result room.old room.new }
     ensures unread { fetch_used result ≢ Some true → room.new ≡ room.old }
     ensures behind { drop (max_bins_of server.old.node.geometry.layout) room.new ≡ drop (max_bins_of server.old.node.geometry.layout) room.old }

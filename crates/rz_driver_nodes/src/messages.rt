@@ -4,10 +4,10 @@ ghost use Rattle.rz_cells_slots.specs.Opening.{opening_calls};
 ghost use Rattle.mj_angles.specs.Layout.{max_bins_of};
 ghost use Rattle.rz_block_laws.specs.Laws as laws;
 ghost use Rattle.rz_node.specs.Calls.{Counts, IsNoStart};
-ghost use Rattle.rz_operation.specs.Answers.{FitsIfEnough, IsAnswerTo};
+ghost use Rattle.rz_operation.specs.Answers.{FitsIfEnough, IsAnswerTo, IsPlaced};
 ghost use Rattle.rz_operation_model.specs.Turns.{goes_by_link};
 ghost use Rattle.rz_play_laws.specs.Own.{IsOfActor};
-ghost use Rattle.rz_driver_nodes.specs.Nodes.{IsNodeServed, IsAsked, IsFetchOf, IsPlaced, IsThroughPart, IsReplyLostPart, IsRequestLostPart};
+ghost use Rattle.rz_driver_nodes.specs.Nodes.{IsNodeServed, IsAsked, IsFetchOf, IsThroughPart, IsReplyLostPart, IsRequestLostPart};
 ghost use Rattle.rz_driver_nodes.specs.Meters.{OneNodeGoesOn};
 ghost use Rattle.rz_driver_nodes.specs.Images.{NodeStaysCoherent, NodeUnchanged};
 
@@ -16,7 +16,7 @@ use rz_disk::Disk;
 use rz_events::{Actor, Event, FetchAnswer, NodeAnswer, NodeAsk};
 use rz_log::Log;
 use rz_node::{Node, answer_node, is_record, node_event};
-use rz_operation::Machine;
+use rz_operation::{Machine, is_placed};
 use rz_player::Halted;
 use std::alloc::Global;
 
@@ -54,16 +54,6 @@ fn serve<D: Disk>(
         NodeAsk::Fetch { .. } | NodeAsk::Drop { .. } | NodeAsk::Probe | NodeAsk::Replace { .. } =>
             Ok(answer_node(alloc, node, ask, bins)),
         NodeAsk::Stop | NodeAsk::Start | NodeAsk::Lose => Err(Halted),
-    }
-}
-
-/// Whether what is fetched lies at a position of the layout.
-fn is_placed(layout: Layout, ask: &NodeAsk) -> bool
-    ensures { IsTrue result → IsPlaced layout ask.now }
-{
-    match ask {
-        NodeAsk::Fetch { position, .. } => usize::from(*position) < layout.safe(),
-        _ => true,
     }
 }
 

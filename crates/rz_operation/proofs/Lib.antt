@@ -1,1 +1,2 @@
 mod ReadTurns
+pub mod NodeAsks

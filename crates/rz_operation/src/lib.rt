@@ -15,4 +15,4 @@ mod replies;
 mod takes;
 
 pub use machine::Machine;
-pub use rz_operation_states::{Ask, Saying, goes_by_link};
+pub use rz_operation_states::{Ask, Saying, goes_by_link, is_placed};

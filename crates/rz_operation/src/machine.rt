@@ -1,8 +1,9 @@
 //! An operation in hand.
 
-ghost use Rattle.std.specs.Prelude.{◌≡◌, ◌↔◌, IfOk, IsTrue, length, []};
-ghost use Rattle.rz_operation_model.specs.Ask.{ask_of, Say, SayDone};
-ghost use Rattle.rz_operation_model.specs.Steps.{begun, Replied, Locked, Missed, Noted};
+ghost use Rattle.std.specs.Prelude.{◌≡◌, ◌↔◌, Bool, IfOk, IsTrue, length, []};
+ghost use Rattle.rz_events.specs.declared.keys.Key.{Key as AKey};
+ghost use Rattle.rz_operation_model.specs.Ask.{ask_of, Say, SayDone, SayGot};
+ghost use Rattle.rz_operation_model.specs.Steps.{begun, read_end, Replied, Locked, Missed, Noted};
 ghost use Rattle.rz_operation_states.specs.Meaning.{meaning_of};
 ghost use Rattle.rz_operation_states.specs.Machine.{is_over, HasBins, AreBins, HasText, text_of};
 ghost use Rattle.rz_operation_states.specs.Records.{HasHead, IsCount};
@@ -12,7 +13,7 @@ use crate::begins::{begun, begun_par};
 use crate::replies::{after_answer, after_lock, after_miss, after_reply, after_said, answer_in};
 use crate::takes::{is_answer, is_lock_reply, is_reply};
 use mj_angles::Layout;
-use rz_events::{Answer, CallRef, NodeAnswer, Operation, Reply};
+use rz_events::{Answer, CallRef, NodeAnswer, Operation, ReadEnd, ReadMark, Reply, Text};
 use rz_operation_states::blocks::{read_ask, write_ask};
 use rz_operation_states::drops::drop_ask;
 use rz_operation_states::locks::lock_ask;
@@ -206,5 +207,27 @@ impl Machine {
             OperationState::Ranging(file) => out.copy_from_slice(file.text()),
             _ => unreachable!(),
         }
+    }
+
+    /// How a read ended, with the text that it found, in new memory.
+    pub fn read_end(&self, alloc: Global, mark: ReadMark) -> Result<ReadEnd, AllocError>
+        requires { (key : AKey) × (part : Bool) × (ask_of self.now.layout self.now.work ≡ Say (SayGot key part mark)) }
+        ensures { IfOk result (λ end. end ≡ read_end (text_of self.now) mark) }
+    {
+        Ok(match mark {
+            ReadMark::Found { stamp, length } => {
+                let mut text = Vec::from_elem(alloc, 0, length as usize)?;
+                self.text_into(&mut text);
+                ReadEnd::Found {
+                    stamp,
+                    text: Text::from_vec(text),
+                }
+            }
+            ReadMark::Hole => ReadEnd::Hole,
+            ReadMark::TooFew { seen } => ReadEnd::TooFew { seen },
+            ReadMark::Inconsistent => ReadEnd::Inconsistent,
+            ReadMark::Denied(why) => ReadEnd::Denied(why),
+            ReadMark::Moved { was, now } => ReadEnd::Moved { was, now },
+        })
     }
 }

@@ -26,7 +26,7 @@ use Rattle.rz_operation_model.specs.Steps.{in_range, in_rebuild}
 use Rattle.rz_file.specs.Machine.{IsUnderWay, IsLaidOut, IsAskOf as IsFileAskOf}
 use Rattle.rz_rebuild.specs.Machine.{ask_in, IsUnderWay as IsRebuildUnderWay, IsAskOf as IsRebuildAskOf}
 use Rattle.rz_operation_states.specs.Records.{HasHead}
-use Rattle.rz_operation_states.specs.Inside.{IsGoing}
+use Rattle.rz_operation_states.specs.Inside.{IsRebuildGoing}
 
 -- A read.
 
@@ -116,7 +116,7 @@ rebuild-head layout n (Refilling t l size base) is place = (
 )
 rebuild-head layout n (Leaving t key why) is place = tt
 
-pub going-head : (layout y : Layout) (n node : ℕ) (state : Rebuild) → y ≡ layout → node ≡ n → IsGoing state → IsRebuildUnderWay y node state → IsRebuildAskOf y (ask_in node state) →
+pub going-head : (layout y : Layout) (n node : ℕ) (state : Rebuild) → y ≡ layout → node ≡ n → IsRebuildGoing state → IsRebuildUnderWay y node state → IsRebuildAskOf y (ask_in node state) →
     HasHead layout (ask_of layout (in_rebuild n state))
 going-head layout y n node (Going s) same is going under place =
     let here : IsRebuild layout n s = subst (λ z. IsRebuild layout z s) is (subst (λ z. IsRebuild z node s) same under) in

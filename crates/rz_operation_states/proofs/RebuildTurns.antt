@@ -18,7 +18,7 @@ use Rattle.rz_operation_states.specs.declared.stage.OperationState.{OperationSta
 use Rattle.rz_operation_states.specs.declared.stage.OperationState.TheVariants as stage
 use Rattle.rz_operation_states.specs.Told.{rebuild_reply, rebuild_answer}
 use Rattle.rz_operation_states.specs.Answers.{pairs_in, pairs_fetched, IsBlockIn, IsWorkAfter, FitsIfEnough}
-use Rattle.rz_operation_states.specs.Inside.{IsGoing, IsRebuildState, machine_of}
+use Rattle.rz_operation_states.specs.Inside.{IsRebuildGoing, IsRebuildState, machine_of}
 
 -- Pairs and block are those of the rebuild.
 
@@ -42,7 +42,7 @@ abbrev given : Option RebuildAnswer → RebuildAnswer
 given None = rebuilds.Noted
 given (Some a) = a
 
-pub replied : (layout : Layout) (n : ℕ) (state : Rebuild) (r : Reply) (a : RebuildAnswer) → IsGoing state → rebuild_reply r ≡ Some a →
+pub replied : (layout : Layout) (n : ℕ) (state : Rebuild) (r : Reply) (a : RebuildAnswer) → IsRebuildGoing state → rebuild_reply r ≡ Some a →
     told layout (in_rebuild n state) (Replied r) ≡ in_rebuild n (told_in layout true state a)
 replied layout n (Going s) (reply.Fence fence) a going is = ap (λ x. in_rebuild n (rebuild_told layout true s x)) (ap given is)
 replied layout n (Going s) (reply.Denied why) a going is = ap (λ x. in_rebuild n (rebuild_told layout true s x)) (ap given is)
@@ -64,12 +64,12 @@ no-record b b' (reply.Looked p) a bins is h =
     subst (λ x. IsRebuildAnswered b x bins b' → RebuildGoes b b.pairs (told_in b.layout true b.state x) b') (ap given is) (λ g. g) h
 no-record b b' (_) a bins is h = cc
 
-pub missed : (layout : Layout) (n : ℕ) (state : Rebuild) → IsGoing state →
+pub missed : (layout : Layout) (n : ℕ) (state : Rebuild) → IsRebuildGoing state →
     told layout (in_rebuild n state) Missed ≡ in_rebuild n (told_in layout true state rebuilds.Missed)
 missed layout n (Going s) going = refl
 missed layout n (Ended end) going = absurd going
 
-pub noted : (layout : Layout) (n : ℕ) (state : Rebuild) (text : List ℕ) → IsGoing state →
+pub noted : (layout : Layout) (n : ℕ) (state : Rebuild) (text : List ℕ) → IsRebuildGoing state →
     told layout (in_rebuild n state) (Noted text) ≡ in_rebuild n (told_in layout true state rebuilds.Noted)
 noted layout n (Going s) text going = refl
 noted layout n (Ended end) text going = absurd going
@@ -99,29 +99,29 @@ settled-goes n b b' had t next new goes same is = go b'.state refl is
           block = refl;
         })
 
-module _ (n : ℕ) (b b' : Rebuilder) (bins : List ℕ) (new : OperationState) (going : IsGoing b.state) (is : IsRebuildState n b' b'.state new) where
+module _ (n : ℕ) (b b' : Rebuilder) (bins : List ℕ) (new : OperationState) (going : IsRebuildGoing b.state) (is : IsRebuildState n b' b'.state new) where
   -- an answer of a node that tells the rebuild `a`
   goes-on : (answer : NodeAnswer) (a : RebuildAnswer) → told b.layout (in_rebuild n b.state) (Answered true answer) ≡ in_rebuild n (told_in b.layout true b.state a) →
       RebuildGoes b b.pairs (told_in b.layout true b.state a) b' →
       IsWorkAfter (machine_of b.layout (stage.Rebuilding n b)) b.pairs (Answered true answer) (machine_of b.layout new)
   goes-on answer a same goes = settled-goes n b b' b.pairs (Answered true answer) (told_in b.layout true b.state a) new goes same is
 
-  told-probe : (state : Rebuild) (loss : Option ℕ) → IsGoing state →
+  told-probe : (state : Rebuild) (loss : Option ℕ) → IsRebuildGoing state →
       told b.layout (in_rebuild n state) (Answered true (node.Probe loss)) ≡ in_rebuild n (told_in b.layout true state (rebuilds.Probed loss))
   told-probe (Going s) loss g = refl
   told-probe (Ended end) loss g = absurd g
 
-  told-replace : (state : Rebuild) (a : _) → IsGoing state →
+  told-replace : (state : Rebuild) (a : _) → IsRebuildGoing state →
       told b.layout (in_rebuild n state) (Answered true (node.Replace a)) ≡ in_rebuild n (told_in b.layout true state (rebuilds.Replaced a))
   told-replace (Going s) a g = refl
   told-replace (Ended end) a g = absurd g
 
-  told-refill : (state : Rebuild) (a : _) → IsGoing state →
+  told-refill : (state : Rebuild) (a : _) → IsRebuildGoing state →
       told b.layout (in_rebuild n state) (Answered true (node.Refill a)) ≡ in_rebuild n (told_in b.layout true state (rebuilds.Refilled a))
   told-refill (Going s) a g = refl
   told-refill (Ended end) a g = absurd g
 
-  told-fetch : (state : Rebuild) (fits : Bool) (a : FetchAnswer) → IsGoing state →
+  told-fetch : (state : Rebuild) (fits : Bool) (a : FetchAnswer) → IsRebuildGoing state →
       told b.layout (in_rebuild n state) (Answered fits (node.Fetch a)) ≡ in_rebuild n (told_in b.layout fits state (rebuilds.Fetched a))
   told-fetch (Going s) fits a g = refl
   told-fetch (Ended end) fits a g = absurd g

@@ -106,9 +106,9 @@ IsLockReply layout ask r = ⊥
 
 -- Answers of nodes. A record comes with the bins of the position that was asked.
 
-abbrev pub IsFetch : Layout → ℕ → NodeAnswer → Type 0
-IsFetch layout position (answer.Fetch a) = IsFetched layout a
-IsFetch layout position a = ⊥
+abbrev pub IsFetchedAt : Layout → ℕ → NodeAnswer → Type 0
+IsFetchedAt layout position (answer.Fetch a) = IsFetched layout a
+IsFetchedAt layout position a = ⊥
 
 abbrev pub HasFetched : Layout → ℕ → NodeAnswer → List ℕ → Type 0
 HasFetched layout position (answer.Fetch a) bins = HasBinsAt layout position a bins
@@ -140,7 +140,7 @@ IsRefill a = ⊥
 
 abbrev pub IsAnswerTo : Layout → NodeAsk → NodeAnswer → Type 0
 IsAnswerTo layout (ask.Keep head) a = IsKeep a
-IsAnswerTo layout (ask.Fetch key position stamp) a = IsFetch layout position a
+IsAnswerTo layout (ask.Fetch key position stamp) a = IsFetchedAt layout position a
 IsAnswerTo layout (ask.Drop fid) a = IsDrop a
 IsAnswerTo layout ask.Probe a = IsProbe a
 IsAnswerTo layout (ask.Replace loss fence) a = IsReplace a
@@ -158,6 +158,11 @@ IsAnswer layout ask a = ⊥
 abbrev pub ComeWith : Layout → Ask → NodeAnswer → List ℕ → Type 0
 ComeWith layout (AskNode n question) a bins = HasBinsTo layout question a bins
 ComeWith layout ask a bins = Unit {0}
+
+-- what is fetched lies at a position of the layout
+abbrev pub IsPlaced : Layout → NodeAsk → Type 0
+IsPlaced layout (ask.Fetch key position stamp) = position < safe_of layout
+IsPlaced layout question = Unit {0}
 
 -- a message that the link may lose was asked
 abbrev pub MayMiss : Ask → Type 0

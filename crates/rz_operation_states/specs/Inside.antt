@@ -80,14 +80,14 @@ pub record IsRanging (y : Layout) (file : FileMachine) : Type 0 where
   pub going : IsRangeOpen file.state
 
 -- a rebuild is under way
-abbrev pub IsGoing : Rebuild → Type 0
-IsGoing (Going s) = Unit {0}
-IsGoing (Ended end) = ⊥
+abbrev pub IsRebuildGoing : Rebuild → Type 0
+IsRebuildGoing (Going s) = Unit {0}
+IsRebuildGoing (Ended end) = ⊥
 
 pub record IsNodeRebuild (y : Layout) (n : ℕ) (rebuilder : Rebuilder) : Type 0 where
   pub layout : rebuilder.layout ≡ y
   pub node : rebuilder.node ≡ n
-  pub going : IsGoing rebuilder.state
+  pub going : IsRebuildGoing rebuilder.state
 
 abbrev pub IsOperationState : Layout → OperationState → Type 0
 IsOperationState layout (stage.Dropping fid places done) = done < length places

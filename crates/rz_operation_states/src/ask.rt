@@ -1,8 +1,10 @@
 //! What an operation asks next.
 
-ghost use Rattle.std.specs.Prelude.{◌≡◌};
+ghost use Rattle.std.specs.Prelude.{◌≡◌, IsTrue};
 ghost use Rattle.rz_operation_model.specs.Turns.{goes_by_link};
+ghost use Rattle.rz_operation_states.specs.Answers.{IsPlaced};
 
+use mj_angles::Layout;
 use rz_events::{Answer, CallRef, Key, LeftWhy, NodeAsk, ReadMark, TreeCall, WriteEnd};
 
 /// What an operation asks next. It borrows what it names.
@@ -58,5 +60,15 @@ pub fn goes_by_link(ask: &NodeAsk) -> bool
             true,
         NodeAsk::Probe | NodeAsk::Stop | NodeAsk::Start | NodeAsk::Lose | NodeAsk::Replace { .. } =>
             false,
+    }
+}
+
+/// Whether what is fetched lies at a position of the layout.
+pub fn is_placed(layout: Layout, ask: &NodeAsk) -> bool
+    ensures { IsTrue result → IsPlaced layout ask.now }
+{
+    match ask {
+        NodeAsk::Fetch { position, .. } => usize::from(*position) < layout.safe(),
+        _ => true,
     }
 }

@@ -44,8 +44,11 @@ pub fn dropped(fid: u128, places: Places, done: u8) -> OperationState
     ensures work { work_of result ≡ drop_at fid (drop (done + 1) places) }
     ensures quiet { HasNoBlock result }
 {
-    let _count = places.list().len();
-    dropping(fid, places, done + 1)
+    if usize::from(done) + 1 < places.list().len() {
+        dropping(fid, places, done + 1)
+    } else {
+        OperationState::Ending(Answer::Plain)
+    }
 }
 
 /// The drops of a file, of which so many nodes are done.

@@ -16,5 +16,5 @@ pub mod ranges;
 pub mod rebuilds;
 mod stage;
 
-pub use ask::{Ask, Saying, goes_by_link};
+pub use ask::{Ask, Saying, goes_by_link, is_placed};
 pub use stage::{OpenPlan, OperationState};

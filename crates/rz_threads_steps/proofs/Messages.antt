@@ -1,5 +1,5 @@
 -- Messages to nodes.
-use Rattle.std.proofs.Common.{◌≡◌, ◌≢◌, ℕ, ◌<◌, ◌≤◌, Bool, true, List, ◌∷◌, length, Option, Some, refl, sym, ◌∙◌, ap, subst, arith}
+use Rattle.std.proofs.Common.{◌≡◌, ◌≢◌, ℕ, ◌<◌, ◌≤◌, Bool, true, List, ◌∷◌, Option, Some, refl, sym, ◌∙◌, ap, subst, arith}
 use Rattle.mj_angles.specs.declared.layout.Layout.{Layout}
 use Rattle.mj_angles.specs.Layout.{safe_of, bins_at_of, max_bins_of}
 use Rattle.rz_events.specs.Volume.{Volume}
@@ -10,13 +10,13 @@ use Rattle.rz_events.specs.declared.nodes.NodeAsk.{NodeAsk}
 use Rattle.rz_events.specs.declared.nodes.NodeAsk.TheVariants as ask
 use Rattle.rz_events.specs.declared.nodes.NodeAnswer.{NodeAnswer}
 use Rattle.rz_events.specs.declared.nodes.NodeAnswer.TheVariants as answer
-use Rattle.rz_events.specs.declared.nodes.FetchAnswer.TheVariants as fetch
 use Rattle.rz_events.specs.declared.nodes.ReplaceAnswer.TheVariants as replace
 use Rattle.rz_events.specs.declared.events.Event.{Event}
 use Rattle.rz_events.specs.declared.events.Event.TheVariants as e
 use Rattle.rz_node_model.specs.NodeEvents.{node_event}
-use Rattle.rz_operation.specs.Answers.{MayMiss, ComeWith, HasBinsTo, IsAnswer, IsAnswerTo}
+use Rattle.rz_operation.specs.Answers.{IsAnswer, IsAnswerTo}
 use Rattle.rz_operation.specs.Machine.{Machine, HasBinsFor, AreBinsFor}
+use Rattle.rz_operation.proofs.NodeAsks.{IsBinful}
 use Rattle.rz_operation_model.specs.Ask.{Ask, AskNode, ask_of}
 use Rattle.rz_operation_model.specs.Turns.{goes_by_link}
 use Rattle.rz_core.specs.History.{Facts, facts, of_actor}
@@ -30,28 +30,6 @@ use Rattle.rz_play_laws.specs.Own.{IsOfActor}
 use Rattle.rz_player.specs.Messages.{IsNotedAs}
 use Rattle.rz_play_laws.proofs.Events.{node-event}
 use Rattle.rz_threads_steps.specs.Adding.{AddsOwn}
-use Rattle.rz_threads_steps.specs.Asking.{IsPlaced}
-
--- ---- what may be lost
-
-pub may-miss : (asked : Ask) (n : ℕ) (question : NodeAsk) → asked ≡ AskNode n question → goes_by_link question ≡ true → MayMiss asked
-may-miss asked n question is by_link = subst MayMiss (sym is) by_link
-
--- ---- room for what is fetched
-
-has-bins : (layout : Layout) (question : NodeAsk) (a : NodeAnswer) (bins : List ℕ) → IsPlaced layout question → ((position : ℕ) → position < safe_of layout → bins_at_of layout position ≤ length bins) → HasBinsTo layout question a bins
-has-bins layout (ask.Fetch key position stamp) (answer.Fetch (fetch.Held r)) bins placed most = most position placed
-has-bins layout (ask.Fetch key position stamp) (answer.Fetch fetch.Nothing) bins placed most = tt
-has-bins layout (ask.Fetch key position stamp) (answer.Fetch fetch.Lost) bins placed most = tt
-has-bins layout (ask.Fetch key position stamp) (answer.Fetch fetch.Down) bins placed most = tt
-has-bins layout (ask.Fetch key position stamp) (answer.Fetch fetch.DiskFault) bins placed most = tt
-has-bins layout (ask.Fetch key position stamp) a bins placed most = tt
-has-bins layout question a bins placed most = tt
-
--- room for a record of the layout is room for what is fetched
-pub come-with : (layout : Layout) (asked : Ask) (n : ℕ) (question : NodeAsk) (a : NodeAnswer) (bins : List ℕ) → asked ≡ AskNode n question → IsPlaced layout question → ((position : ℕ) → position < safe_of layout → bins_at_of layout position ≤ length bins)
-    → ComeWith layout asked a bins
-come-with layout asked n question a bins is placed most = subst (λ (x : Ask). ComeWith layout x a bins) (sym is) (has-bins layout question a bins placed most)
 
 -- ---- an answer has an event, but for want of memory
 
@@ -104,23 +82,7 @@ is-open v asks h by number m n question acts asked link = (asks h by number m (A
 
 -- ---- bins that are handed to a node
 
--- what a node is not to keep comes without bins
-abbrev pub IsBinless : NodeAsk → Type 0
-IsBinless (ask.Keep head) = ⊥
-IsBinless (ask.Refill fence head) = ⊥
-IsBinless question = Unit {0}
-
-pub no-bins : (question : NodeAsk) → IsBinless question → HasBinsFor question → ⊥
-no-bins (ask.Keep head) binless has = binless
-no-bins (ask.Refill fence head) binless has = binless
-no-bins (_) binless has = has
-
--- what it is to keep comes with them, and no record is read
-abbrev pub IsBinful : NodeAsk → Type 0
-IsBinful (ask.Keep head) = Unit {0}
-IsBinful (ask.Refill fence head) = Unit {0}
-IsBinful question = ⊥
-
+-- what a node is to keep reads no record
 pub no-read : (v : Volume) (f : Facts) (n : ℕ) (question : NodeAsk) (given : NodeAnswer) (bins bins' : List ℕ) → IsBinful question → IsTrueRecord v f n question given bins bins'
 no-read v f n (ask.Keep head) given bins bins' is = tt
 no-read v f n (ask.Refill fence head) given bins bins' is = tt

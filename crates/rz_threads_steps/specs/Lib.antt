@@ -2,5 +2,4 @@ pub mod Turned
 pub mod Adding
 pub mod Saying
 pub mod Acted
-pub mod Asking
 pub mod Opening

@@ -6,6 +6,6 @@ use Rattle.rz_events.specs.declared.tree.TreeCall.{TreeCall}
 use Rattle.rz_events.specs.declared.tree.TreeCall.TheVariants as tree
 
 -- it is there where the call is one, and only there
-abbrev pub IsOpening : Call → Option TreeCall → Type 0
-IsOpening (call.Tree (tree.OpenFile path)) opening = opening ≡ Some (tree.OpenFile path)
-IsOpening c opening = opening ≡ None
+abbrev pub IsOpenCall : Call → Option TreeCall → Type 0
+IsOpenCall (call.Tree (tree.OpenFile path)) opening = opening ≡ Some (tree.OpenFile path)
+IsOpenCall c opening = opening ≡ None

@@ -7,7 +7,7 @@ ghost use Rattle.rz_play.specs.Faults.{missed};
 ghost use Rattle.rz_chronicle.specs.Kinds.{volume_in};
 ghost use Rattle.rz_show.specs.Shown.{shown_of};
 ghost use Rattle.rz_threads_steps.specs.Acted.{PassLasts, IsWorkRight, HasActed};
-ghost use Rattle.rz_threads_steps.specs.Opening.{IsOpening};
+ghost use Rattle.rz_threads_steps.specs.Opening.{IsOpenCall};
 ghost use Rattle.rz_threads_steps.specs.Turned.{IsCutOff};
 
 use crate::adding::call_export;
@@ -34,7 +34,7 @@ pub fn next_call(machine: &Machine) -> Result<CallRef<'_>, Halted>
 
 /// The call of an open, in new memory: it is shown once a file answers it. No other call is.
 fn opening_in(alloc: Global, call: CallRef<'_>) -> Result<Option<TreeCall>, AllocError>
-    ensures { IfOk result (λ opening. IsOpening (call_of call.entry) opening) }
+    ensures { IfOk result (λ opening. IsOpenCall (call_of call.entry) opening) }
 {
     let CallRef::Tree(call) = call else {
         return Ok(None);

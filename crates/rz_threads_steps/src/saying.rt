@@ -1,9 +1,5 @@
 //! Words of an actor's own.
-ghost use Rattle.std.specs.Prelude.{◌≡◌, Bool, IfOk, OnOk, OnErr};
-ghost use Rattle.rz_events.specs.declared.keys.Key.{Key as AKey};
-ghost use Rattle.rz_operation.specs.Machine.{text_of};
-ghost use Rattle.rz_operation_model.specs.Ask.{ask_of, Say, SayGot};
-ghost use Rattle.rz_operation_model.specs.Steps.{read_end};
+ghost use Rattle.std.specs.Prelude.{◌≡◌, IfOk, OnOk, OnErr};
 ghost use Rattle.rz_core.specs.History.{of_actor};
 ghost use Rattle.rz_play.specs.Faults.{missed};
 ghost use Rattle.rz_chronicle.specs.Kinds.{volume_in};
@@ -17,33 +13,11 @@ use crate::showing::show;
 use crate::store::SharedStore;
 use rz_chronicle::Pass;
 use rz_disk::Disk;
-use rz_events::{Actor, Event, ReadEnd, ReadMark, Text};
+use rz_events::{Actor, Event};
 use rz_operation::{Ask, Machine, Saying};
 use rz_player::Halted;
 use rz_shared::Counting;
-use std::alloc::{AllocError, Global};
-
-/// How a read ended, with the text that it found.
-fn end_of(alloc: Global, machine: &Machine, mark: ReadMark) -> Result<ReadEnd, AllocError>
-    requires asked { (key : AKey) × (part : Bool) × (ask_of machine.now.layout machine.now.work ≡ Say (SayGot key part mark)) }
-    ensures { IfOk result (λ end. end ≡ read_end (text_of machine.now) mark) }
-{
-    Ok(match mark {
-        ReadMark::Found { stamp, length } => {
-            let mut text = Vec::from_elem(alloc, 0, length as usize)?;
-            machine.text_into(&mut text);
-            ReadEnd::Found {
-                stamp,
-                text: Text::from_vec(text),
-            }
-        }
-        ReadMark::Hole => ReadEnd::Hole,
-        ReadMark::TooFew { seen } => ReadEnd::TooFew { seen },
-        ReadMark::Inconsistent => ReadEnd::Inconsistent,
-        ReadMark::Denied(why) => ReadEnd::Denied(why),
-        ReadMark::Moved { was, now } => ReadEnd::Moved { was, now },
-    })
-}
+use std::alloc::Global;
 
 /// The event of what a machine is about to say, which it has then said.
 pub fn said(alloc: Global, by: Actor, number: u32, machine: &mut Machine) -> Result<Event, Halted>
@@ -51,7 +25,7 @@ pub fn said(alloc: Global, by: Actor, number: u32, machine: &mut Machine) -> Res
 {
     match machine.next() {
         Ask::Say(Saying::Got { key, part, mark }) => {
-            let end = end_of(alloc, machine, mark)?;
+            let end = machine.read_end(alloc, mark)?;
             machine.tell_said();
             Ok(Event::Got {
                 by,

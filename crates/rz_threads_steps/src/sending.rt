@@ -19,7 +19,6 @@ ghost use Rattle.rz_events.specs.declared.events.Word.TheVariants as w;
 ghost use Rattle.rz_show.specs.Shown.{shown_of};
 ghost use Rattle.rz_threads_steps.specs.Acted.{PassLasts, IsWorkRight, HasActed, IsCallServed};
 ghost use Rattle.rz_threads_steps.specs.Adding.{AddsOwn};
-ghost use Rattle.rz_threads_steps.specs.Asking.{IsPlaced};
 ghost use Rattle.rz_threads_steps.specs.Turned.{AreLost, IsCutOff};
 
 use crate::adding::{add_own, call_node};
@@ -31,7 +30,7 @@ use rz_disk::Disk;
 use rz_events::{Actor, Event, NodeAnswer, NodeAsk, NodeSpec, ReplaceAnswer};
 use rz_link::{Link, Sent, fate};
 use rz_node::is_record;
-use rz_operation::{Machine, goes_by_link};
+use rz_operation::{Machine, goes_by_link, is_placed};
 use rz_player::Halted;
 use rz_shared::Counting;
 use std::sync::Wait;
@@ -51,16 +50,6 @@ fn is_in(volume: &Volume, number: u16) -> bool
     clusters
         .iter()
         .any(|cluster| is_among(cluster.nodes.as_slice(), number))
-}
-
-/// Whether what is fetched lies at a position of the layout.
-fn is_placed(layout: Layout, ask: &NodeAsk) -> bool
-    ensures { IsTrue result → IsPlaced layout ask.now }
-{
-    match ask {
-        NodeAsk::Fetch { position, .. } => usize::from(*position) < layout.safe(),
-        _ => true,
-    }
 }
 
 /// Whether a node says that memory is wanting. Such an answer has no event.

@@ -6,7 +6,7 @@ ghost use Rattle.rz_events.specs.declared.tree.TreeReply.TheVariants as reply;
 ghost use Rattle.rz_events.specs.Borrowed.{call_of};
 ghost use Rattle.rz_export_model.specs.ExportEvents.{export_event};
 ghost use Rattle.rz_show.specs.Shown as model;
-ghost use Rattle.rz_threads_steps.specs.Opening.{IsOpening};
+ghost use Rattle.rz_threads_steps.specs.Opening.{IsOpenCall};
 
 use rz_events::{Actor, Call, CallRef, Event, FileInfo, Reply, TreeCall, TreeReply};
 
@@ -66,7 +66,7 @@ pub(crate) fn show_opening(
     reply: &Reply,
     shown: &mut Vec<Event>,
 )
-    requires opening { IsOpening (call_of call) opening }
+    requires opening { IsOpenCall (call_of call) opening }
     requires room { vec_len shown.old + 1 ≤ vec_capacity shown.old }
     ensures { shown.new.items ≡ shown.old.items ++ model.shown_in (export_event by (call_of call.entry) reply.now) }
 {

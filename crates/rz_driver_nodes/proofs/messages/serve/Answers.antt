@@ -1,7 +1,8 @@
 use Rattle.std.proofs.Common.{subst, rules}
 use Rattle.rz_operation.specs.Machine.{AreBins}
 use Rattle.rz_operation_model.specs.Ask.{Ask}
-use Rattle.rz_driver_nodes.proofs.MessageCoherence.{IsBinless, IsBinful, no-bins, any-bins}
+use Rattle.rz_operation.proofs.NodeAsks.{IsBinless, IsBinful, no-bins}
+use Rattle.rz_driver_nodes.proofs.MessageCoherence.{any-bins}
 use Rattle.rz_driver_nodes.proofs.messages.serve.Goals as goal
 
 pub returns-in-Fetch-clause-message : goal.returns-in-Fetch-clause-message

@@ -2,7 +2,7 @@ use Rattle.std.proofs.Common.{sym, subst, arith}
 use Rattle.mj_angles.specs.declared.layout.Layout.{Layout}
 use Rattle.rz_operation.specs.Answers.{ComeWith, IsAnswer}
 use Rattle.rz_operation_model.specs.Ask.{Ask, ask_of}
-use Rattle.rz_driver_nodes.proofs.Asks.{come-with}
+use Rattle.rz_operation.proofs.NodeAsks.{come-with}
 use Rattle.rz_driver_nodes.proofs.messages.tell.Goals as goal
 
 pub tell_answer-requires-clause-asked : goal.tell_answer-requires-clause-asked

@@ -5,7 +5,7 @@ use Rattle.rz_cells_slots.specs.Opening.{opening_calls}
 use Rattle.rz_node_model.specs.NodeEvents.{node_event}
 use Rattle.rz_driver_nodes.proofs.MeterLemmas.{call-goes, call-lasts, missed-goes}
 use Rattle.rz_operation_model.specs.Ask.{ask_of}
-use Rattle.rz_driver_nodes.proofs.Asks.{may-miss}
+use Rattle.rz_operation.proofs.NodeAsks.{may-miss}
 use Rattle.rz_driver_nodes.proofs.MessageCoherence.{eventless, keeps-lost, not-called}
 use Rattle.rz_driver_nodes.proofs.CoherenceLemmas.{on-err}
 use Rattle.rz_driver_nodes.proofs.messages.without_reply.Goals as goal

@@ -1,5 +1,5 @@
 use Rattle.rz_operation_model.specs.Ask.{ask_of}
-use Rattle.rz_driver_nodes.proofs.Asks.{may-miss}
+use Rattle.rz_operation.proofs.NodeAsks.{may-miss}
 use Rattle.rz_driver_nodes.proofs.messages.without_request.Goals as goal
 
 pub tell_missed-requires : goal.tell_missed-requires

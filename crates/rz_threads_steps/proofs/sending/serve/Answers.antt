@@ -3,7 +3,8 @@ use Rattle.rz_operation_model.specs.Ask.{Ask}
 use Rattle.rz_operation.specs.Machine.{AreBins}
 use Rattle.rz_core.specs.History.{facts}
 use Rattle.rz_chronicle.specs.Kinds.{volume_in}
-use Rattle.rz_threads_steps.proofs.Messages.{IsBinless, IsBinful, may-ask, no-bins, no-read}
+use Rattle.rz_operation.proofs.NodeAsks.{IsBinless, IsBinful, no-bins}
+use Rattle.rz_threads_steps.proofs.Messages.{may-ask, no-read}
 use Rattle.rz_threads_steps.proofs.sending.serve.Goals as goal
 
 pub call_node-requires-clause-may : goal.call_node-requires-clause-may

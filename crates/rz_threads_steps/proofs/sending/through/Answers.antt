@@ -3,18 +3,19 @@ use Rattle.mj_angles.specs.declared.layout.Layout.{Layout}
 use Rattle.mj_angles.specs.Layout.{max_bins_of}
 use Rattle.rz_events.specs.Volume.{Volume}
 use Rattle.rz_node_model.specs.NodeEvents.{node_event}
+use Rattle.rz_operation.specs.Answers.{IsPlaced}
 use Rattle.rz_operation_model.specs.Ask.{ask_of}
 use Rattle.rz_operation_model.specs.Steps.{Answered}
 use Rattle.rz_core.specs.History.{of_actor}
 use Rattle.rz_chronicle.specs.Kinds.{is_honest, volume_in}
 use Rattle.rz_show.specs.Shown.{shown_of}
 use Rattle.rz_threads_steps.specs.Acted.{PassLasts}
-use Rattle.rz_threads_steps.specs.Asking.{IsPlaced}
 use Rattle.rz_chronicle.specs.Rules.{PassView}
 use Rattle.rz_play.specs.Faults.{missed}
 use Rattle.rz_threads_steps.specs.Turned.{IsCutOff}
 use Rattle.rz_threads_steps.proofs.Acts.{still-lasts, still-cut, on-err, cut-by, node-step, heard-of}
-use Rattle.rz_threads_steps.proofs.Messages.{come-with, event-of, fetch-room, noted-through}
+use Rattle.rz_operation.proofs.NodeAsks.{come-with}
+use Rattle.rz_threads_steps.proofs.Messages.{event-of, fetch-room, noted-through}
 use Rattle.rz_threads_steps.proofs.sending.through.Goals as goal
 
 pub returns-then-not-is_placed-clause-lasts : goal.returns-then-not-is_placed-clause-lasts

@@ -15,7 +15,8 @@ use Rattle.rz_threads_steps.specs.Turned.{IsCutOff}
 use Rattle.rz_threads_steps.proofs.Added.{lost-count}
 use Rattle.rz_threads_steps.proofs.Shows.{unshown-of}
 use Rattle.rz_threads_steps.proofs.Acts.{still-lasts, still-cut, on-err, lasts-on, cut-by, node-step, missed-reply}
-use Rattle.rz_threads_steps.proofs.Messages.{event-of, may-miss, open-after, noted-reply}
+use Rattle.rz_operation.proofs.NodeAsks.{may-miss}
+use Rattle.rz_threads_steps.proofs.Messages.{event-of, open-after, noted-reply}
 use Rattle.rz_threads_steps.proofs.sending.without_reply.Goals as goal
 
 pub returns-in_err-answer-clause-lasts : goal.returns-in_err-answer-clause-lasts

@@ -8,7 +8,8 @@ use Rattle.rz_show.specs.Shown.{shown_of}
 use Rattle.rz_threads_steps.proofs.Added.{lost-count}
 use Rattle.rz_threads_steps.proofs.Shows.{unshown-of}
 use Rattle.rz_threads_steps.proofs.Acts.{still-lasts, still-cut, missed-request}
-use Rattle.rz_threads_steps.proofs.Messages.{may-miss, is-open}
+use Rattle.rz_operation.proofs.NodeAsks.{may-miss}
+use Rattle.rz_threads_steps.proofs.Messages.{is-open}
 use Rattle.rz_threads_steps.proofs.sending.without_request.Goals as goal
 
 pub returns-then-not-room-clause-lasts : goal.returns-then-not-room-clause-lasts

@@ -1,6 +1,5 @@
--- What is asked of a node, and what comes of it.
-use Rattle.std.proofs.Common.{◌≡◌, ℕ, ◌<◌, ◌≤◌, true, List, length, Result, Ok, Err, sym, subst}
-use Rattle.std.specs.Prelude.{OnOk}
+-- What a machine asks of a node: whether the link may lose it, which bins go with it, and that there is room for what is fetched.
+use Rattle.std.proofs.Common.{◌≡◌, ℕ, ◌<◌, ◌≤◌, true, List, length, sym, subst}
 use Rattle.mj_angles.specs.declared.layout.Layout.{Layout}
 use Rattle.mj_angles.specs.Layout.{safe_of, bins_at_of}
 use Rattle.rz_events.specs.declared.nodes.NodeAsk.{NodeAsk}
@@ -8,10 +7,10 @@ use Rattle.rz_events.specs.declared.nodes.NodeAsk.TheVariants as ask
 use Rattle.rz_events.specs.declared.nodes.NodeAnswer.{NodeAnswer}
 use Rattle.rz_events.specs.declared.nodes.NodeAnswer.TheVariants as answer
 use Rattle.rz_events.specs.declared.nodes.FetchAnswer.TheVariants as fetch
-use Rattle.rz_operation.specs.Answers.{MayMiss, ComeWith, HasBinsTo}
 use Rattle.rz_operation_model.specs.Ask.{Ask, AskNode}
 use Rattle.rz_operation_model.specs.Turns.{goes_by_link}
-use Rattle.rz_driver_nodes.specs.Nodes.{IsPlaced}
+use Rattle.rz_operation_states.specs.Machine.{HasBinsFor}
+use Rattle.rz_operation_states.specs.Answers.{MayMiss, ComeWith, HasBinsTo, IsPlaced}
 
 -- a message that goes through the link may be lost
 pub may-miss : (asked : Ask) (n : ℕ) (question : NodeAsk) → asked ≡ AskNode n question → goes_by_link question ≡ true → MayMiss asked
@@ -31,7 +30,19 @@ pub come-with : (layout : Layout) (asked : Ask) (n : ℕ) (question : NodeAsk) (
     → ComeWith layout asked a bins
 come-with layout asked n question a bins is placed most = subst (λ (x : Ask). ComeWith layout x a bins) (sym is) (has-bins layout question a bins placed most)
 
--- what follows where all went well
-pub on_ok : {T E : Type 0} {P Q : Type 0} (r : Result T E) → (P → Q) → OnOk r P → OnOk r Q
-on_ok (Ok x) f p = f p
-on_ok (Err e) f p = p
+-- what a node is not to keep comes without bins
+abbrev pub IsBinless : NodeAsk → Type 0
+IsBinless (ask.Keep head) = ⊥
+IsBinless (ask.Refill fence head) = ⊥
+IsBinless question = Unit {0}
+
+pub no-bins : (question : NodeAsk) → IsBinless question → HasBinsFor question → ⊥
+no-bins (ask.Keep head) none has = none
+no-bins (ask.Refill fence head) none has = none
+no-bins question none has = has
+
+-- what it is to keep comes with them
+abbrev pub IsBinful : NodeAsk → Type 0
+IsBinful (ask.Keep head) = Unit {0}
+IsBinful (ask.Refill fence head) = Unit {0}
+IsBinful question = ⊥
