@@ -78,7 +78,6 @@ fn tell(layout: Layout, machine: &mut Machine, ask: &NodeAsk, answer: NodeAnswer
     requires bins { max_bins_of layout ≤ length bins.now }
     ensures { FitsIfEnough machine.old answer bins.now machine.new }
 {
-    let _most = layout.max_bins();
     machine.tell_answer(answer, bins);
 }
 

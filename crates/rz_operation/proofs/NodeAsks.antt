@@ -1,7 +1,8 @@
 -- What a machine asks of a node: whether the link may lose it, which bins go with it, and that there is room for what is fetched.
-use Rattle.std.proofs.Common.{◌≡◌, ℕ, ◌<◌, ◌≤◌, true, List, length, sym, subst}
+use Rattle.std.proofs.Common.{◌≡◌, ℕ, ◌≤◌, true, List, length, sym, subst, arith}
 use Rattle.mj_angles.specs.declared.layout.Layout.{Layout}
-use Rattle.mj_angles.specs.Layout.{safe_of, bins_at_of}
+use Rattle.mj_angles.specs.Layout.{max_bins_of}
+use Rattle.mj_angles.proofs.Numbers.{bins_at-le}
 use Rattle.rz_events.specs.declared.nodes.NodeAsk.{NodeAsk}
 use Rattle.rz_events.specs.declared.nodes.NodeAsk.TheVariants as ask
 use Rattle.rz_events.specs.declared.nodes.NodeAnswer.{NodeAnswer}
@@ -16,8 +17,8 @@ use Rattle.rz_operation_states.specs.Answers.{MayMiss, ComeWith, HasBinsTo, IsPl
 pub may-miss : (asked : Ask) (n : ℕ) (question : NodeAsk) → asked ≡ AskNode n question → goes_by_link question ≡ true → MayMiss asked
 may-miss asked n question is by_link = subst MayMiss (sym is) by_link
 
-has-bins : (layout : Layout) (question : NodeAsk) (a : NodeAnswer) (bins : List ℕ) → IsPlaced layout question → ((position : ℕ) → position < safe_of layout → bins_at_of layout position ≤ length bins) → HasBinsTo layout question a bins
-has-bins layout (ask.Fetch key position stamp) (answer.Fetch (fetch.Held r)) bins placed most = most position placed
+has-bins : (layout : Layout) (question : NodeAsk) (a : NodeAnswer) (bins : List ℕ) → IsPlaced layout question → max_bins_of layout ≤ length bins → HasBinsTo layout question a bins
+has-bins layout (ask.Fetch key position stamp) (answer.Fetch (fetch.Held r)) bins placed most = let each = bins_at-le layout position placed in omega (arith, each, most)
 has-bins layout (ask.Fetch key position stamp) (answer.Fetch fetch.Nothing) bins placed most = tt
 has-bins layout (ask.Fetch key position stamp) (answer.Fetch fetch.Lost) bins placed most = tt
 has-bins layout (ask.Fetch key position stamp) (answer.Fetch fetch.Down) bins placed most = tt
@@ -26,7 +27,7 @@ has-bins layout (ask.Fetch key position stamp) a bins placed most = tt
 has-bins layout question a bins placed most = tt
 
 -- room for a record of the layout is room for what is fetched
-pub come-with : (layout : Layout) (asked : Ask) (n : ℕ) (question : NodeAsk) (a : NodeAnswer) (bins : List ℕ) → asked ≡ AskNode n question → IsPlaced layout question → ((position : ℕ) → position < safe_of layout → bins_at_of layout position ≤ length bins)
+pub come-with : (layout : Layout) (asked : Ask) (n : ℕ) (question : NodeAsk) (a : NodeAnswer) (bins : List ℕ) → asked ≡ AskNode n question → IsPlaced layout question → max_bins_of layout ≤ length bins
     → ComeWith layout asked a bins
 come-with layout asked n question a bins is placed most = subst (λ (x : Ask). ComeWith layout x a bins) (sym is) (has-bins layout question a bins placed most)
 

@@ -1,7 +1,6 @@
 -- Messages to nodes.
-use Rattle.std.proofs.Common.{◌≡◌, ◌≢◌, ℕ, ◌<◌, ◌≤◌, Bool, true, List, ◌∷◌, Option, Some, refl, sym, ◌∙◌, ap, subst, arith}
+use Rattle.std.proofs.Common.{◌≡◌, ◌≢◌, ℕ, Bool, true, List, ◌∷◌, Option, Some, refl, sym, ◌∙◌, ap, subst}
 use Rattle.mj_angles.specs.declared.layout.Layout.{Layout}
-use Rattle.mj_angles.specs.Layout.{safe_of, bins_at_of, max_bins_of}
 use Rattle.rz_events.specs.Volume.{Volume}
 use Rattle.rz_link.specs.declared.Sent.{Sent}
 use Rattle.rz_link.specs.declared.Sent.TheVariants as sent
@@ -95,14 +94,6 @@ not-through-replylost s is = λ same. (let both : sent.ReplyLost ≡ sent.Throug
 
 pub not-through-requestlost : (s : Sent) → s ≡ sent.RequestLost → s ≢ sent.Through
 not-through-requestlost s is = λ same. (let both : sent.RequestLost ≡ sent.Through = sym is ∙ same in cc)
-
--- room for the most bins is room for those of any position
-pub fetch-room : (a b : Layout) (most n k : ℕ) → a ≡ b → most ≡ max_bins_of a → ((position : ℕ) → position < safe_of a → bins_at_of a position ≤ most) → max_bins_of b ≤ n → k ≡ n
-    → (position : ℕ) → position < safe_of b → bins_at_of b position ≤ k
-fetch-room a b most n k same is each room many position low =
-    let at_most : bins_at_of b position ≤ most = subst (λ (y : Layout). (p : ℕ) → p < safe_of y → bins_at_of y p ≤ most) same each position low in
-    let top : most ≡ max_bins_of b = is ∙ ap max_bins_of same in
-    omega (arith, at_most, top, room, many)
 
 -- ---- after the answer of a node the operation is open
 

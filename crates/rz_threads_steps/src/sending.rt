@@ -124,7 +124,6 @@ fn through<R: Wait, D: Disk, J: Counting>(
 {
     rz_block_laws::acting::hears();
     let layout = store.layout();
-    let _most = layout.max_bins();
     let _fit = pass.actor();
     if !is_placed(layout, ask) {
         return Err(Halted);

@@ -1,4 +1,4 @@
-use Rattle.std.proofs.Common.{sym, subst, arith}
+use Rattle.std.proofs.Common.{sym, subst}
 use Rattle.mj_angles.specs.declared.layout.Layout.{Layout}
 use Rattle.rz_operation.specs.Answers.{ComeWith, IsAnswer}
 use Rattle.rz_operation_model.specs.Ask.{Ask, ask_of}
@@ -15,5 +15,4 @@ pub tell_answer-requires-clause-bins : goal.tell_answer-requires-clause-bins
 tell_answer-requires-clause-bins c =
     let m = c.args.machine.now in
     subst (λ (y : Layout). ComeWith y (ask_of m.layout m.work) c.args.answer c.args.bins.now) (sym c.requires.machine)
-    (come-with c.args.layout (ask_of m.layout m.work) c.requires.asked.0 c.args.ask.now c.args.answer c.args.bins.now c.requires.asked.1 c.requires.placed
-    (λ position low. (let each = c.max_bins-most.ensures.greatest position low in let most = c.max_bins-most.ensures.value in let room = c.requires.bins in omega (arith, each, most, room))))
+    (come-with c.args.layout (ask_of m.layout m.work) c.requires.asked.0 c.args.ask.now c.args.answer c.args.bins.now c.requires.asked.1 c.requires.placed c.requires.bins)

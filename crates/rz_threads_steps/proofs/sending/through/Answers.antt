@@ -1,4 +1,4 @@
-use Rattle.std.proofs.Common.{◌≡◌, ◌∙◌, ◌≤◌, true, length, refl, sym, ap, subst}
+use Rattle.std.proofs.Common.{◌≡◌, ◌∙◌, ◌≤◌, true, length, refl, sym, ap, subst, arith}
 use Rattle.mj_angles.specs.declared.layout.Layout.{Layout}
 use Rattle.mj_angles.specs.Layout.{max_bins_of}
 use Rattle.rz_events.specs.Volume.{Volume}
@@ -15,7 +15,7 @@ use Rattle.rz_play.specs.Faults.{missed}
 use Rattle.rz_threads_steps.specs.Turned.{IsCutOff}
 use Rattle.rz_threads_steps.proofs.Acts.{still-lasts, still-cut, on-err, cut-by, node-step, heard-of}
 use Rattle.rz_operation.proofs.NodeAsks.{come-with}
-use Rattle.rz_threads_steps.proofs.Messages.{event-of, fetch-room, noted-through}
+use Rattle.rz_threads_steps.proofs.Messages.{event-of, noted-through}
 use Rattle.rz_threads_steps.proofs.sending.through.Goals as goal
 
 pub returns-then-not-is_placed-clause-lasts : goal.returns-then-not-is_placed-clause-lasts
@@ -83,5 +83,4 @@ tell_answer-requires-clause-bins g c =
     let same : c.layout-layout.result ≡ m.layout = c.layout-layout.ensures ∙ ap (λ (v : Volume). v.layout) c.requires.volume ∙ sym c.requires.layout in
     come-with m.layout (ask_of m.layout m.work) c.args.node c.args.ask.now c.in_ok-answer.answer c.serve.new.bins c.requires.asked
     (subst (λ (y : Layout). IsPlaced y c.args.ask.now) same (c.is_placed.ensures c.if-not-is_placed.false))
-    (fetch-room c.layout-layout.result m.layout c.max_bins-most.result (length c.args.bins.now) (length c.serve.new.bins) same c.max_bins-most.ensures.value c.max_bins-most.ensures.greatest
-    (subst (λ (y : Layout). max_bins_of y ≤ length c.args.bins.now) (sym c.requires.layout) c.requires.room) c.serve.auto.bins)
+    (let room = subst (λ (y : Layout). max_bins_of y ≤ length c.args.bins.now) (sym c.requires.layout) c.requires.room in let kept = c.serve.auto.bins in omega (arith, room, kept))
