@@ -42,14 +42,14 @@ length-projection : (f : ℕ → ℕ → ℕ) (rows cols : ℕ) (p : _) → leng
 unfolding projection
 length-projection f rows cols p = length-map-range_with_len (bin f rows cols p) 0 (bins p rows cols)
 
-length-bins : (y : Layout) (text : List ℕ) (position : ℕ) → length (bins_at y (block_of y text) position) ≡ bins_at_of y position
+pub length-bins : (y : Layout) (text : List ℕ) (position : ℕ) → length (bins_at y (block_of y text) position) ≡ bins_at_of y position
 length-bins y text position = length-projection (word (block_of y text)) (inverse_of y) (cols_of y) (angle_of y position)
 
-length-words : (text : List ℕ) (n : ℕ) → length (words_from text n) ≡ n
+pub length-words : (text : List ℕ) (n : ℕ) → length (words_from text n) ≡ n
 unfolding words_from
 length-words text n = length-map-range_with_len (λ j. little_number 8 (drop (8 * j) text)) 0 n
 
-shape : (y : Layout) → IsShape (inverse_of y) (cols_of y)
+pub shape : (y : Layout) → IsShape (inverse_of y) (cols_of y)
 shape layouts.L0 = record { some_row = omega arith; few_rows = omega arith; some_column = omega arith; few_columns = omega arith }
 shape layouts.L1 = record { some_row = omega arith; few_rows = omega arith; some_column = omega arith; few_columns = omega arith }
 shape layouts.L2 = record { some_row = omega arith; few_rows = omega arith; some_column = omega arith; few_columns = omega arith }

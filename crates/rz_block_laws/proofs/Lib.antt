@@ -1,5 +1,5 @@
 mod Hands
-mod Fetching
+pub mod Fetching
 mod Records
 mod Others
 mod Marks
@@ -9,5 +9,5 @@ mod Turns
 mod Fresh
 mod Texts
 mod Sayings
-mod Starts
+pub mod Starts
 mod Acts

@@ -1,46 +1,17 @@
 -- The record of a write at a node, and its bins.
-use Rattle.std.proofs.Common.{◌≡◌, ℕ, zero, suc, Bool, true, false, cond, ◌+◌, List, [], ◌∷◌, ◌++◌, length, take, drop, Option, Some, None, refl, ap, subst, arith, eq-eqb}
+use Rattle.std.proofs.Common.{◌≡◌, ℕ, zero, suc, Bool, true, false, cond, ◌+◌, List, [], ◌∷◌, ◌++◌, length, take, Option, Some, None, refl, ap, subst, arith, eq-eqb}
 use Rattle.std.specs.Prelude.{slice_get, ◌*◌, ◌==◌}
 use Rattle.std.proofs.Math.Seq.{take-append_seam}
 use Rattle.std.proofs.lemmas.Bool.{eqb-true}
-use Rattle.std.proofs.lemmas.List.FromFn.{length-map-range_with_len}
-use Rattle.byteorder.specs.Endian.{little_number}
 use Rattle.mj_angles.specs.declared.layout.Layout.{Layout}
-use Rattle.mj_angles.specs.declared.layout.Layout.TheVariants as layouts
-use Rattle.mj_angles.specs.Layout.{inverse_of, cols_of, angle_of, bins_at_of}
-use Rattle.mj_angles.specs.Projection.{projection, bins, bin}
-use Rattle.rz_words.specs.Grid.{IsShape, word, words_from}
+use Rattle.mj_angles.specs.Layout.{inverse_of, cols_of}
 use Rattle.rz_scrub.specs.Misfits.{IsBlock}
 use Rattle.rz_events.specs.declared.records.Head.{Head}
 use Rattle.rz_operation_model.specs.Rebuild.{position_in}
 use Rattle.rz_core.specs.History.{Begun}
 use Rattle.rz_core.specs.HeldRecords.{block_of, bins_at, record_at, record_on}
 use Rattle.rz_log_laws.specs.Places.{IsApart}
-
-length-projection : (f : ℕ → ℕ → ℕ) (rows cols : ℕ) (p : _) → length (projection f rows cols p) ≡ bins p rows cols
-unfolding projection
-length-projection f rows cols p = length-map-range_with_len (bin f rows cols p) 0 (bins p rows cols)
-
-pub length-bins : (y : Layout) (text : List ℕ) (position : ℕ) → length (bins_at y (block_of y text) position) ≡ bins_at_of y position
-length-bins y text position = length-projection (word (block_of y text)) (inverse_of y) (cols_of y) (angle_of y position)
-
-length-words : (text : List ℕ) (n : ℕ) → length (words_from text n) ≡ n
-unfolding words_from
-length-words text n = length-map-range_with_len (λ j. little_number 8 (drop (8 * j) text)) 0 n
-
-shape : (y : Layout) → IsShape (inverse_of y) (cols_of y)
-shape layouts.L0 = record { some_row = omega arith; few_rows = omega arith; some_column = omega arith; few_columns = omega arith }
-shape layouts.L1 = record { some_row = omega arith; few_rows = omega arith; some_column = omega arith; few_columns = omega arith }
-shape layouts.L2 = record { some_row = omega arith; few_rows = omega arith; some_column = omega arith; few_columns = omega arith }
-shape layouts.L0B1 = record { some_row = omega arith; few_rows = omega arith; some_column = omega arith; few_columns = omega arith }
-shape layouts.L0B2 = record { some_row = omega arith; few_rows = omega arith; some_column = omega arith; few_columns = omega arith }
-shape layouts.L0B3 = record { some_row = omega arith; few_rows = omega arith; some_column = omega arith; few_columns = omega arith }
-shape layouts.L1B1 = record { some_row = omega arith; few_rows = omega arith; some_column = omega arith; few_columns = omega arith }
-shape layouts.L1B2 = record { some_row = omega arith; few_rows = omega arith; some_column = omega arith; few_columns = omega arith }
-shape layouts.L1B3 = record { some_row = omega arith; few_rows = omega arith; some_column = omega arith; few_columns = omega arith }
-shape layouts.L2B1 = record { some_row = omega arith; few_rows = omega arith; some_column = omega arith; few_columns = omega arith }
-shape layouts.L2B2 = record { some_row = omega arith; few_rows = omega arith; some_column = omega arith; few_columns = omega arith }
-shape layouts.L2B3 = record { some_row = omega arith; few_rows = omega arith; some_column = omega arith; few_columns = omega arith }
+use Rattle.rz_block_laws.proofs.Fetching.{length-words, shape}
 
 -- a text's block has the size of the layout
 pub is-block : (y : Layout) (text : List ℕ) → IsBlock y (block_of y text)

@@ -40,7 +40,8 @@ use Rattle.rz_driver_nodes.specs.Images.{AreImaged, HasImages, fused_image}
 use Rattle.rz_driver.specs.Coherence.{IsCoherent}
 use Rattle.rz_driver_nodes.specs.Servers.{state_in}
 use Rattle.rz_driver_nodes.proofs.Rows.{all-at, state-at}
-use Rattle.rz_replay.proofs.Blocks.{front, is-block, length-bins, of-record, position-is}
+use Rattle.rz_block_laws.proofs.Fetching.{length-bins}
+use Rattle.rz_replay.proofs.Blocks.{front, is-block, of-record, position-is}
 use Rattle.rz_replay.proofs.Listed.{listed-file}
 
 -- a record that is told is of the stamp that was asked for

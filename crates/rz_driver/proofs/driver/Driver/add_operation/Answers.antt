@@ -14,7 +14,8 @@ use Rattle.rz_driver_actors.specs.Agendas.{IsAgenda, HasLayout, work_in, agenda_
 use Rattle.rz_driver.specs.Worlds.{place_of, world, world_of}
 use Rattle.rz_driver_nodes.proofs.Rows.{all-at}
 use Rattle.rz_driver.proofs.OrderLemmas.{ordered, still-ready, all-more}
-use Rattle.rz_driver.proofs.ActorOrders.{place-low, operation-fits}
+use Rattle.rz_block_laws.proofs.Starts.{takes}
+use Rattle.rz_driver.proofs.ActorOrders.{place-low}
 use Rattle.rz_driver.proofs.DriverCoherence.{actor-coherence, works-with, still-counted, still-right}
 use Rattle.rz_driver.proofs.JournalLemmas.{journal-stays, journal-still}
 use Rattle.rz_driver_nodes.proofs.CoherenceLemmas.{on-err}
@@ -35,7 +36,7 @@ returns-clause-ready g c =
     let here : slice_get d.agendas.items c.in-Some.place ≡ Some s = slice_get_read d.agendas.items (length d.agendas.items) c.in-Some.place s refl low c.index_mut.ensures.value in
     let shape = all-at (IsAgenda d.volume.layout) d.agendas.items c.in-Some.place s c.requires.ready.agendas here in
     let e = c.in_ok-add.ensures in
-    let fits = subst (IsOperation d.volume.layout) (sym c.in_ok-op.ensures) (operation-fits d.volume c.args.by c.args.op.now c.requires.line.1) in
+    let fits = subst (IsOperation d.volume.layout) (sym c.in_ok-op.ensures) (takes d.volume c.args.by c.args.op.now c.requires.line.1) in
     still-ready d _ c.args.by c.in-Some.place s b c.requires.ready refl refl refl at low here
     (record {
       machine = subst (HasLayout d.volume.layout) (sym e.machine) shape.machine;
