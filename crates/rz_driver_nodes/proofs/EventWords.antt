@@ -1,6 +1,6 @@
 -- Whose word an event is of.
 use Rattle.std.proofs.Common.{◌≡◌, ◌≢◌, ℕ, Bool, true, false, cond, List, ◌∷◌, Option, Some, None, IfSome, refl, sym, ap, subst}
-use Rattle.std.proofs.lemmas.Bool.{eqb-true, eq-eqb}
+use Rattle.std.proofs.lemmas.Bool.{eqb-true}
 use Rattle.rz_events.specs.declared.keys.Actor.{Actor}
 use Rattle.rz_events.specs.declared.export.Call.{Call}
 use Rattle.rz_events.specs.declared.export.Call.TheVariants as call
@@ -34,12 +34,6 @@ the_some x y is = cc
 
 pub word-stays : (n : ℕ) (x : Event) (h : List Event) → same_word (Node n) (word_of x) ≡ false → of_word (Node n) (x ∷ h) ≡ of_word (Node n) h
 word-stays n x h is = ap (λ b. cond b (x ∷ of_word (Node n) h) (of_word (Node n) h)) is
-
-pub word-grows : (n : ℕ) (x : Event) (h : List Event) → word_of x ≡ Node n → of_word (Node n) (x ∷ h) ≡ x ∷ of_word (Node n) h
-word-grows n x h is =
-    let itself : same_word (Node n) (Node n) ≡ true = eq-eqb n n refl in
-    let own : same_word (Node n) (word_of x) ≡ true = subst (λ (v : Word). same_word (Node n) v ≡ true) (sym is) itself in
-    ap (λ b. cond b (x ∷ of_word (Node n) h) (of_word (Node n) h)) own
 
 pub word-apart : (n m : ℕ) (x : Event) → word_of x ≡ Node m → n ≢ m → same_word (Node n) (word_of x) ≡ false
 word-apart n m x is apart = subst (λ (v : Word). same_word (Node n) v ≡ false) (sym is) (go (same_word (Node n) (Node m)) refl)
@@ -134,10 +128,6 @@ node-word by n (ask.Replace loss fence) (answer.Replace replace.DiskFault) = ref
 node-word by n (ask.Replace loss fence) (_) = tt
 
 -- the word of the node has the event, and those of the others stay
-pub noted-own : (n : ℕ) (o : Option Event) (h : List Event) → IfSome o (λ x. word_of x ≡ Node n) → of_word (Node n) (noted o h) ≡ noted o (of_word (Node n) h)
-noted-own n None h own = refl
-noted-own n (Some x) h own = word-grows n x h own
-
 pub noted-others : (n : ℕ) (o : Option Event) (h : List Event) → IfSome o (λ x. word_of x ≡ Node n) → (m : ℕ) → m ≢ n → of_word (Node m) (noted o h) ≡ of_word (Node m) h
 noted-others n None h own m apart = refl
 noted-others n (Some x) h own m apart = word-stays m x h (word-apart m n x own apart)

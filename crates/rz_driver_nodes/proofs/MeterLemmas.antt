@@ -20,7 +20,6 @@ use Rattle.rz_events.specs.declared.nodes.NodeAsk.{NodeAsk}
 use Rattle.rz_events.specs.declared.nodes.NodeAsk.TheVariants as ask
 use Rattle.rz_events.specs.declared.nodes.NodeAnswer.{NodeAnswer}
 use Rattle.rz_events.specs.declared.nodes.NodeAnswer.TheVariants as answer
-use Rattle.rz_events.specs.declared.nodes.ReplaceAnswer.TheVariants as replace
 use Rattle.rz_events.specs.declared.events.Word.TheVariants.{Node}
 use Rattle.rz_events.specs.declared.events.Event.{Event}
 use Rattle.rz_events.specs.declared.events.Event.TheVariants as e
@@ -34,7 +33,6 @@ use Rattle.rz_operation_model.specs.Turns.{said_event}
 use Rattle.rz_core.specs.History.{of_word}
 use Rattle.rz_node.specs.View.{NodeView}
 use Rattle.rz_node.specs.Opens.{Opens, IfStarted, UnlessStarted}
-use Rattle.rz_node.specs.Spends.{Spends, keep_used, fetch_used, refill_used, drop_used}
 use Rattle.rz_node.specs.Calls as calls
 use Rattle.rz_node.specs.Calls.{Counts}
 use Rattle.rz_play.specs.Faults.{unplanned}
@@ -49,7 +47,9 @@ use Rattle.rz_events.specs.declared.files.NodeSpec.{NodeSpec}
 use Rattle.rz_events.specs.Volume.{Volume, IsVolume, nodes_of}
 use Rattle.rz_nodes.specs.Formatted.{AreFormatted, disks_of}
 use Rattle.rz_driver_nodes.specs.Meters.{IsExact, GoesWith, CountsWith, OfEach, AreMetered, AreCounted, AreDisksCounted, CarriesCounts, OneNodeGoesOn, GoesAsServer, faults_at, faults_in}
-use Rattle.rz_driver_nodes.proofs.EventWords.{word-stays, word-grows, word-apart, node-word, export-quiet, said-quiet, noted-own, noted-others}
+use Rattle.rz_node_laws.proofs.NodeWords.{word-grows, noted-own}
+use Rattle.rz_node_laws.proofs.MeterRises.{no-start, counts-last, opens-last, armed-there}
+use Rattle.rz_driver_nodes.proofs.EventWords.{word-stays, word-apart, node-word, export-quiet, said-quiet, noted-others}
 
 -- Along the row.
 
@@ -112,42 +112,6 @@ module _ {D : Type 0} where
   each-then P Q first h i (s ∷ more) turns o = (turns (first i) (of_word (Node s.sid) h) s.node o.0, each-then P Q first h (i + 1) more turns o.1)
 
 -- One node.
-
-no-start : (question : NodeAsk) → calls.IsNoStart question → IsNoStart question
-no-start ask.Start no_start = absurd no_start
-no-start (_) no_start = tt
-
-spends-lasts : (k : ℕ) (used : Option Bool) (old new : Meter) → Spends k used old new → old.own ≤ new.own
-spends-lasts k None old new is = let same : new.own ≡ old.own = ap (λ (m : Meter). m.own) is in omega (arith, same)
-spends-lasts k (Some true) old new is = is.lasts.own
-spends-lasts k (Some false) old new is = is.lasts.own
-
-same-own : (old new : Meter) → new ≡ old → old.own ≤ new.own
-same-own old new is = let same : new.own ≡ old.own = ap (λ (m : Meter). m.own) is in omega (arith, same)
-
--- no call but a start makes the count fall, nor does that
-counts-last : (k cells : ℕ) (question : NodeAsk) (given : NodeAnswer) (s : NodeState) (old new : Meter) → IsNoStart question → IsNodeAnswer cells s question given → Counts k given old new → old.own ≤ new.own
-counts-last k cells question (answer.Keep a) s old new no_start is counts = spends-lasts 4 (keep_used a) old new counts
-counts-last k cells question (answer.Fetch a) s old new no_start is counts = spends-lasts 1 (fetch_used a) old new counts
-counts-last k cells question (answer.Refill a) s old new no_start is counts = spends-lasts 4 (refill_used a) old new counts
-counts-last k cells question (answer.Drop a) s old new no_start is counts = spends-lasts 4 (drop_used a) old new counts
-counts-last k cells ask.Start (answer.Start a) s old new no_start is counts = absurd no_start
-counts-last k cells (ask.Keep head) (answer.Start a) s old new no_start is counts = absurd is
-counts-last k cells (ask.Fetch key p t) (answer.Start a) s old new no_start is counts = absurd is
-counts-last k cells (ask.Refill f head) (answer.Start a) s old new no_start is counts = absurd is
-counts-last k cells (ask.Drop fid) (answer.Start a) s old new no_start is counts = absurd is
-counts-last k cells ask.Probe (answer.Start a) s old new no_start is counts = absurd is
-counts-last k cells ask.Stop (answer.Start a) s old new no_start is counts = absurd is
-counts-last k cells ask.Lose (answer.Start a) s old new no_start is counts = absurd is
-counts-last k cells (ask.Replace loss fence) (answer.Start a) s old new no_start is counts = absurd is
-counts-last k cells question (answer.Replace replace.Replaced) s old new no_start is counts = counts.lasts.own
-counts-last k cells question (answer.Replace replace.DiskFault) s old new no_start is counts = counts.lasts.own
-counts-last k cells question (answer.Replace replace.NoMemory) s old new no_start is counts = counts.lasts.own
-counts-last k cells question (answer.Replace replace.NotLost) s old new no_start is counts = same-own old new counts
-counts-last k cells question (answer.Replace (replace.OtherLoss loss)) s old new no_start is counts = same-own old new counts
-counts-last k cells question (answer.Probe a) s old new no_start is counts = same-own old new counts
-counts-last k cells question (answer.Stop a) s old new no_start is counts = same-own old new counts
-counts-last k cells question (answer.Lose a) s old new no_start is counts = same-own old new counts
 
 module _ {D : Type 0} (meter : D → Meter) where
   exact-before : (node node' : NodeView D) → (meter node.disk).own ≤ (meter node'.disk).own → IsExact (meter node'.disk) → IsExact (meter node.disk)
@@ -254,10 +218,6 @@ pub armed-own : (fuse : Bool) (passes : Option ℕ) (old new : Meter) → new �
 armed-own true passes old new is = ap (λ (m : Meter). m.own) is
 armed-own false passes old new is = ap (λ (m : Meter). m.own) is
 
-pub armed-there : (fuse : Bool) (passes : Option ℕ) (old new : Meter) → IsTrue fuse → new ≡ (if fuse then armed passes old else old) → new ≡ armed passes old
-armed-there true passes old new has is = is
-armed-there false passes old new has is = cc
-
 module _ {D : Type 0} (meter : D → Meter) where
   pub arm-goes : IsArmLaw → (fuse : Bool) → IsTrue fuse → (n k pick : ℕ) (node node' : NodeView D) → node'.state.phase ≡ node.state.phase
       → meter node'.disk ≡ (if fuse then armed (Some k) (meter node.disk) else meter node.disk) → (h : List Event) → OneNodeGoesOn meter n node node' h (e.Armed n k pick ∷ h)
@@ -307,12 +267,6 @@ module _ {D : Type 0} (meter : D → Meter) where
           subst (λ (t : NodeState). IsMetered first (of_word (Node n) h) t.phase (meter node'.disk)) (sym state) here,
     );
   }
-
-  opens-last : (k : ℕ) (given : StartAnswer) (old new : Meter) → Opens k given old new → old.own ≤ new.own
-  opens-last k start.NotDown old new is = same-own old new is
-  opens-last k start.NoMemory old new is = same-own old new is
-  opens-last k (start.Started took) old new is = is.lasts.own
-  opens-last k (start.Unopened cause) old new is = is.lasts.own
 
   pub start-lasts : (k : ℕ) (given : StartAnswer) (node node' : NodeView D) (mid : Meter) → mid.own ≡ (meter node.disk).own → Opens k given mid (meter node'.disk) → (meter node.disk).own ≤ (meter node'.disk).own
   start-lasts k given node node' mid same opens = let rose = opens-last k given mid (meter node'.disk) opens in omega (arith, rose, same)

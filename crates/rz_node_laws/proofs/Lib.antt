@@ -4,3 +4,5 @@ mod Held
 mod Records
 mod ImageCalls
 mod Words
+pub mod MeterRises
+pub mod NodeWords

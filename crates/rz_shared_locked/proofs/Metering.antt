@@ -1,6 +1,5 @@
 -- The word of a node beside the meter of its disk, through calls of the node.
-use Rattle.std.proofs.Common.{◌≡◌, ◌-◌, ◌≤◌, ℕ, Bool, true, false, cond, IsTrue, IfSome, List, [], ◌∷◌, Option, Some, None, refl, sym, ◌∙◌, ap, subst, inl, arith, eq-eqb}
-use Rattle.std.specs.Prelude.{if◌then◌else◌}
+use Rattle.std.proofs.Common.{◌≡◌, ◌-◌, ◌≤◌, ℕ, true, false, List, [], ◌∷◌, Option, Some, None, refl, sym, ◌∙◌, ap, subst, inl, arith}
 use Rattle.rz_disk.specs.Meter.{Meter, armed}
 use Rattle.rz_events.specs.declared.keys.Actor.{Actor}
 use Rattle.rz_events.specs.declared.nodes.Phase.{Phase}
@@ -11,12 +10,8 @@ use Rattle.rz_events.specs.declared.nodes.NodeAnswer.{NodeAnswer}
 use Rattle.rz_events.specs.declared.nodes.NodeAnswer.TheVariants as answer
 use Rattle.rz_events.specs.declared.nodes.StartAnswer.{StartAnswer}
 use Rattle.rz_events.specs.declared.nodes.StartAnswer.TheVariants as start
-use Rattle.rz_events.specs.declared.nodes.ReplaceAnswer.TheVariants as replace
-use Rattle.rz_events.specs.declared.events.Word.{Word}
-use Rattle.rz_events.specs.declared.events.Word.TheVariants.{Node}
 use Rattle.rz_events.specs.declared.events.Event.{Event}
 use Rattle.rz_events.specs.declared.events.Event.TheVariants as e
-use Rattle.rz_events.specs.Events.{word_of, same_word}
 use Rattle.rz_node_model.specs.Records.{Records}
 use Rattle.rz_node_model.specs.States.{NodeState, opened}
 use Rattle.rz_node_model.specs.Answers.{IsNodeAnswer}
@@ -24,73 +19,19 @@ use Rattle.rz_node_model.specs.Afterwards.{after_answer, after_start}
 use Rattle.rz_node_model.specs.NodeEvents.{node_event, start_event}
 use Rattle.rz_node.specs.Opens.{Opens, IfStarted, UnlessStarted}
 use Rattle.rz_node.specs.View.{NodeView}
-use Rattle.rz_node.specs.Spends.{Spends, keep_used, fetch_used, refill_used, drop_used}
 use Rattle.rz_node.specs.Calls.{Counts}
 use Rattle.rz_node.specs.Calls as calls
-use Rattle.rz_core.specs.History.{of_word}
 use Rattle.rz_play.specs.Faults.{fuse_of}
 use Rattle.rz_play.specs.Lines.{noted}
 use Rattle.rz_node_laws.specs.Metered.{IsMetered, IsNoStart, IsFaultLaw, IsArmLaw, IsStartLaw, IsOpening, IsCounted}
+use Rattle.rz_node_laws.proofs.MeterRises.{no-start, counts-last, opens-last}
+pub use Rattle.rz_node_laws.proofs.MeterRises.{armed-there}
+pub use Rattle.rz_node_laws.proofs.NodeWords.{noted-own}
 use Rattle.rz_shared_locked.specs.Counts.{IsExact, GoesWith, AreCountedSince, rearmed}
-
--- The word of a node grows by the node's events.
-
-word-grows : (n : ℕ) (x : Event) (h : List Event) → word_of x ≡ Node n → of_word (Node n) (x ∷ h) ≡ x ∷ of_word (Node n) h
-word-grows n x h is =
-    let itself : same_word (Node n) (Node n) ≡ true = eq-eqb n n refl in
-    let own : same_word (Node n) (word_of x) ≡ true = subst (λ (v : Word). same_word (Node n) v ≡ true) (sym is) itself in
-    ap (λ b. cond b (x ∷ of_word (Node n) h) (of_word (Node n) h)) own
-
-pub noted-own : (n : ℕ) (o : Option Event) (h : List Event) → IfSome o (λ x. word_of x ≡ Node n) → of_word (Node n) (noted o h) ≡ noted o (of_word (Node n) h)
-noted-own n None h own = refl
-noted-own n (Some x) h own = word-grows n x h own
-
--- No count falls.
-
-no-start : (question : NodeAsk) → calls.IsNoStart question → IsNoStart question
-no-start ask.Start no_start = absurd no_start
-no-start (_) no_start = tt
 
 pub no-start-of : (question : NodeAsk) → (question ≡ ask.Start → ⊥) → calls.IsNoStart question
 no-start-of ask.Start apart = absurd (apart refl)
 no-start-of (_) apart = tt
-
-same-own : (old new : Meter) → new ≡ old → old.own ≤ new.own
-same-own old new is = let same : new.own ≡ old.own = ap (λ (m : Meter). m.own) is in omega (arith, same)
-
-spends-lasts : (k : ℕ) (used : Option Bool) (old new : Meter) → Spends k used old new → old.own ≤ new.own
-spends-lasts k None old new is = same-own old new is
-spends-lasts k (Some true) old new is = is.lasts.own
-spends-lasts k (Some false) old new is = is.lasts.own
-
-counts-last : (k cells : ℕ) (question : NodeAsk) (given : NodeAnswer) (s : NodeState) (old new : Meter) → IsNoStart question → IsNodeAnswer cells s question given → Counts k given old new → old.own ≤ new.own
-counts-last k cells question (answer.Keep a) s old new no_start is counts = spends-lasts 4 (keep_used a) old new counts
-counts-last k cells question (answer.Fetch a) s old new no_start is counts = spends-lasts 1 (fetch_used a) old new counts
-counts-last k cells question (answer.Refill a) s old new no_start is counts = spends-lasts 4 (refill_used a) old new counts
-counts-last k cells question (answer.Drop a) s old new no_start is counts = spends-lasts 4 (drop_used a) old new counts
-counts-last k cells ask.Start (answer.Start a) s old new no_start is counts = absurd no_start
-counts-last k cells (ask.Keep head) (answer.Start a) s old new no_start is counts = absurd is
-counts-last k cells (ask.Fetch key p t) (answer.Start a) s old new no_start is counts = absurd is
-counts-last k cells (ask.Refill f head) (answer.Start a) s old new no_start is counts = absurd is
-counts-last k cells (ask.Drop fid) (answer.Start a) s old new no_start is counts = absurd is
-counts-last k cells ask.Probe (answer.Start a) s old new no_start is counts = absurd is
-counts-last k cells ask.Stop (answer.Start a) s old new no_start is counts = absurd is
-counts-last k cells ask.Lose (answer.Start a) s old new no_start is counts = absurd is
-counts-last k cells (ask.Replace loss fence) (answer.Start a) s old new no_start is counts = absurd is
-counts-last k cells question (answer.Replace replace.Replaced) s old new no_start is counts = counts.lasts.own
-counts-last k cells question (answer.Replace replace.DiskFault) s old new no_start is counts = counts.lasts.own
-counts-last k cells question (answer.Replace replace.NoMemory) s old new no_start is counts = counts.lasts.own
-counts-last k cells question (answer.Replace replace.NotLost) s old new no_start is counts = same-own old new counts
-counts-last k cells question (answer.Replace (replace.OtherLoss loss)) s old new no_start is counts = same-own old new counts
-counts-last k cells question (answer.Probe a) s old new no_start is counts = same-own old new counts
-counts-last k cells question (answer.Stop a) s old new no_start is counts = same-own old new counts
-counts-last k cells question (answer.Lose a) s old new no_start is counts = same-own old new counts
-
-opens-last : (k : ℕ) (given : StartAnswer) (old new : Meter) → Opens k given old new → old.own ≤ new.own
-opens-last k start.NotDown old new is = same-own old new is
-opens-last k start.NoMemory old new is = same-own old new is
-opens-last k (start.Started took) old new is = is.lasts.own
-opens-last k (start.Unopened cause) old new is = is.lasts.own
 
 -- One node.
 
@@ -185,10 +126,6 @@ module _ {D : Type 0} (meter : D → Meter) where
   -- in the end the faults of the word are counted
   pub goes-counted : IsCounted → (first : ℕ) (w : List Event) (node : NodeView D) → GoesWith meter first w node → AreCountedSince first (meter node.disk).own w
   goes-counted law first w node was = record { rose = was.rose; counted = λ exact. law first w node.state.phase (meter node.disk) (was.metered exact) }
-
-pub armed-there : (fuse : Bool) (passes : Option ℕ) (old new : Meter) → IsTrue fuse → new ≡ (if fuse then armed passes old else old) → new ≡ armed passes old
-armed-there true passes old new has is = is
-armed-there false passes old new has is = cc
 
 -- the phase after a start, also where the disk does not tell what it holds
 pub phase-after : (given : StartAnswer) (s s' : NodeState) (losses fence : ℕ) (held : Records) → IfStarted given (s' ≡ opened losses fence held) → UnlessStarted given (s' ≡ s) → s'.phase ≡ (after_start given s).phase

@@ -10,7 +10,8 @@ use Rattle.rz_events.specs.declared.nodes.Phase.TheVariants.{Down}
 use Rattle.rz_node.specs.Opens.{Opens, IfStarted, UnlessStarted, IfUnopened}
 use Rattle.rz_play.specs.Lines.{IsStartedAs, IsAnswerInPlay, noted}
 use Rattle.rz_driver_nodes.specs.Meters.{OneNodeGoesOn}
-use Rattle.rz_driver_nodes.proofs.MeterLemmas.{armed-own, armed-there, start-down, start-still, start-lasts}
+use Rattle.rz_node_laws.proofs.MeterRises.{armed-there}
+use Rattle.rz_driver_nodes.proofs.MeterLemmas.{armed-own, start-down, start-still, start-lasts}
 use Rattle.std.specs.Prelude.{ℕ, Bool, IsTrue, Option}
 use Rattle.rz_events.specs.declared.keys.Actor.TheVariants.{Admin}
 use Rattle.rz_events.specs.declared.events.Event.{Event}
