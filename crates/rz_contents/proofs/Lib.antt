@@ -7,3 +7,4 @@ pub mod Gets
 pub mod Stillness
 pub mod Mending
 pub mod Removing
+pub mod Ranges

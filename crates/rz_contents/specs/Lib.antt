@@ -4,3 +4,4 @@ pub mod Putting
 pub mod Getting
 pub mod Mending
 pub mod Removing
+pub mod Ranges

@@ -13,9 +13,12 @@
 //!   beside it. A put changes exactly its block, and nothing if it is not acknowledged; a get and a rebuild
 //!   change nothing.
 //! - [`removed`]: a file whose last name went stays gone.
+//! - [`writes_patch`], [`writes_together`], [`reads_text`], [`reads_together`]: ranges of bytes. A block's
+//!   text that is put with some bytes patched in writes exactly these bytes of its file, and what a block's
+//!   text has are the bytes of its file, block by block.
 //!
 //! In reading order: `Contents` has blocks, `Model` the store as users see it, `Putting`, `Getting`,
-//! `Mending` and `Removing` the single operations. The functions have no code. What each one says is its
+//! `Mending` and `Removing` the single operations, and `Ranges` ranges of bytes. The functions have no code. What each one says is its
 //! clause.
 #![tactic(auto)]
 
@@ -29,6 +32,7 @@ ghost use Rattle.rz_contents.specs.Putting.{IsPutAlone};
 ghost use Rattle.rz_contents.specs.Getting.{IsGetAlone};
 ghost use Rattle.rz_contents.specs.Mending.{IsRebuildAlone};
 ghost use Rattle.rz_contents.specs.Removing.{StaysGone};
+ghost use Rattle.rz_contents.specs.Ranges.{WritesPatch, WritesTogether, ReadsText, ReadsTogether};
 
 /// In a legal log an accepted publish puts the text of its write into the block, and no other event
 /// changes what a block contains.
@@ -88,4 +92,25 @@ pub fn rebuild_alone()
 /// begun, published or listed.
 pub fn removed()
     ensures { (v : Volume) → StaysGone v }
+{}
+
+/// A put of a block's text with bytes patched in writes these bytes of its file. No other byte of the file
+/// is changed, and no block of another file.
+pub fn writes_patch()
+    ensures { WritesPatch }
+{}
+
+/// Bytes that are written behind one another are written together.
+pub fn writes_together()
+    ensures { WritesTogether }
+{}
+
+/// What a block's text has from a place on are the bytes of its file, with zeros where the text ended.
+pub fn reads_text()
+    ensures { ReadsText }
+{}
+
+/// Bytes that are read behind one another are read together.
+pub fn reads_together()
+    ensures { ReadsTogether }
 {}

@@ -1,0 +1,5 @@
+use Rattle.rz_contents.proofs.Ranges as laws
+use Rattle.rz_contents.proofs.reads_text.Goals as goal
+
+pub returns : goal.returns
+returns c = laws.reads-text
