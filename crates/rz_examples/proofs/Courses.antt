@@ -20,7 +20,7 @@ use Rattle.rz_events.specs.declared.events.Answer.TheVariants as answers
 use Rattle.rz_events.specs.declared.events.Event.{Event}
 use Rattle.rz_events.specs.declared.events.Event.TheVariants as e
 use Rattle.rz_operation_model.specs.Work.{Work, Calling}
-use Rattle.rz_operation_model.specs.Steps.{Replied, Answered, Missed, begun, told}
+use Rattle.rz_operation_model.specs.Steps.{Told, Replied, Answered, Missed, begun, told}
 use Rattle.rz_operation_model.specs.Turns.{Through, ReplyLost, RequestLost}
 use Rattle.rz_core.specs.History.{of_actor}
 use Rattle.rz_core.specs.Own.{IsBetween}
@@ -28,7 +28,7 @@ use Rattle.rz_core.specs.Courses.{IsCourse, Begun, Went, IsGot, IsGave, DoneRow}
 use Rattle.rz_examples.specs.Plain.{plain, one, mender, block, file, path, hello}
 use Rattle.rz_examples.specs.Ordinary as plainly
 use Rattle.rz_examples.specs.Ordinary.{made, made_done, opened, kept_at, accepted_on, looked, hello_published, hello_record, fetched_at, with_file, with_begin, with_keeps, with_write, with_records}
-use Rattle.rz_examples.specs.Mended.{with_disk, probed, enrolled, replaced, hello_listed, listed, empty_there, given_at, refilled, none_left, mended}
+use Rattle.rz_examples.specs.Mended.{with_disk, probed, enrolled, replaced, hello_listed, listed, empty_there, given_at, refilled, none_left, with_sources, mended}
 use Rattle.rz_examples.specs.Troubled.{with_three, down_at, short_causes, looked_again, none_at, lost_at, short_outcomes, gone, dropped_at}
 
 -- a file was made
@@ -42,22 +42,22 @@ made_row = record {
 
 -- The write of the block.
 
-abbrev put_begun : Work
+abbrev pub put_begun : Work
 put_begun = told plain.layout (begun (operation.Put path 0 (datum.Bytes hello))) (Replied (reply.Tree (given.File (file 0))))
 
-put_opened : IsCourse plain.layout one 2 (opened 0 ∷ made_done ∷ made ∷ []) put_begun
+pub put_opened : IsCourse plain.layout one 2 (opened 0 ∷ made_done ∷ made ∷ []) put_begun
 put_opened =
     Went _ _ (Replied (reply.Tree (given.File (file 0)))) (opened 0 ∷ []) (Begun (made_done ∷ made ∷ []) (operation.Put path 0 (datum.Bytes hello)) refl refl)
     (reply.Tree (given.File (file 0)), opened 0, refl, refl, refl)
 
-put_started : IsCourse plain.layout one 2 (of_actor one with_begin) (told plain.layout put_begun (Replied (reply.Begun 1 0)))
+pub put_started : IsCourse plain.layout one 2 (of_actor one with_begin) (told plain.layout put_begun (Replied (reply.Begun 1 0)))
 put_started = Went _ _ (Replied (reply.Begun 1 0)) (plainly.begun ∷ []) put_opened (reply.Begun 1 0, plainly.begun, refl, refl, refl)
 
 -- a record was kept
-abbrev kept : Work → Work
+abbrev pub kept : Work → Work
 kept work = told plain.layout work (Answered true (answer.Keep keep.Kept))
 
-put_kept : IsCourse plain.layout one 2 (of_actor one with_keeps) (kept (kept (kept (told plain.layout put_begun (Replied (reply.Begun 1 0))))))
+pub put_kept : IsCourse plain.layout one 2 (of_actor one with_keeps) (kept (kept (kept (told plain.layout put_begun (Replied (reply.Begun 1 0))))))
 put_kept =
     let one_kept = Went _ _ (Answered true (answer.Keep keep.Kept)) (kept_at 1 0 ∷ []) put_started (Through (answer.Keep keep.Kept) (kept_at 1 0) refl) in
     let two_kept = Went _ _ (Answered true (answer.Keep keep.Kept)) (kept_at 2 1 ∷ []) one_kept (Through (answer.Keep keep.Kept) (kept_at 2 1) refl) in
@@ -72,19 +72,22 @@ put_gave = record {
 
 -- Its read.
 
-abbrev get_begun : Work
+abbrev pub get_begun : Work
 get_begun = told plain.layout (begun (operation.Get path 0)) (Replied (reply.Tree (given.File (file 5))))
 
 -- the block was looked up
-abbrev get_looked : Work
+abbrev pub get_looked : Work
 get_looked = told plain.layout get_begun (Replied (reply.Looked (Some hello_published)))
 
-get_started : (before : List Event) → IsBetween before → IsCourse plain.layout one 3 (looked ∷ opened 5 ∷ before) get_looked
-get_started before between =
-    let open_course =
+pub get_opened : (before : List Event) → IsBetween before → IsCourse plain.layout one 3 (opened 5 ∷ before) get_begun
+get_opened before between =
     Went _ _ (Replied (reply.Tree (given.File (file 5)))) (opened 5 ∷ []) (Begun before (operation.Get path 0) refl between)
-    (reply.Tree (given.File (file 5)), opened 5, refl, refl, refl) in
-    Went _ _ (Replied (reply.Looked (Some hello_published))) (looked ∷ []) open_course (reply.Looked (Some hello_published), looked, refl, refl, refl)
+    (reply.Tree (given.File (file 5)), opened 5, refl, refl, refl)
+
+pub get_started : (before : List Event) → IsBetween before → IsCourse plain.layout one 3 (looked ∷ opened 5 ∷ before) get_looked
+get_started before between =
+    Went _ _ (Replied (reply.Looked (Some hello_published))) (looked ∷ []) (get_opened before between)
+    (reply.Looked (Some hello_published), looked, refl, refl, refl)
 
 -- a record came
 abbrev came : Work → Work
@@ -181,23 +184,47 @@ unlinked_row =
 
 -- A node was rebuilt.
 
-pub finished_row : DoneRow plain mender 1 (of_actor mender mended) (answers.Rebuild (rebuild.Rebuilt 2 1))
-unfolding count_trailing_zeros
-finished_row =
-    let probe : IsCourse plain.layout mender 1 (probed ∷ []) (told plain.layout (begun (operation.Rebuild 1)) (Answered true (answer.Probe (Some 1)))) =
+-- the work after all that was told, the oldest first
+abbrev pub after_all : Work → List Told → Work
+after_all work [] = work
+after_all work (t ∷ ts) = after_all (told plain.layout work t) ts
+
+-- the rebuild of node 1 up to its fresh disk
+abbrev pub with_fresh : Work
+with_fresh =
+    after_all (begun (operation.Rebuild 1))
+    (Answered true (answer.Probe (Some 1)) ∷ Replied (reply.Fence 2) ∷ Answered true (answer.Replace replace.Replaced) ∷ [])
+
+pub disk_replaced : IsCourse plain.layout mender 1 (replaced ∷ enrolled ∷ probed ∷ []) with_fresh
+disk_replaced =
+    let probe =
     Went _ _ (Answered true (answer.Probe (Some 1))) (probed ∷ []) (Begun [] (operation.Rebuild 1) refl tt) (Through (answer.Probe (Some 1)) probed refl) in
     let enrol = Went _ _ (Replied (reply.Fence 2)) (enrolled ∷ []) probe (reply.Fence 2, enrolled, refl, refl, refl) in
-    let fresh = Went _ _ (Answered true (answer.Replace replace.Replaced)) (replaced ∷ []) enrol (Through (answer.Replace replace.Replaced) replaced refl) in
+    Went _ _ (Answered true (answer.Replace replace.Replaced)) (replaced ∷ []) enrol (Through (answer.Replace replace.Replaced) replaced refl)
+
+-- and up to the records that it read
+abbrev pub with_copy : Work
+with_copy =
+    after_all with_fresh
+    (Replied (reply.Listed (Some hello_listed)) ∷ Answered true (answer.Fetch fetch.Nothing) ∷ Answered true (answer.Fetch (fetch.Held hello_record))
+    ∷ Answered true (answer.Fetch (fetch.Held hello_record)) ∷ [])
+
+pub block_copied : IsCourse plain.layout mender 1 (of_actor mender with_sources) with_copy
+unfolding count_trailing_zeros
+block_copied =
     let told_one =
-    Went _ _ (Replied (reply.Listed (Some hello_listed))) (listed ∷ []) fresh (reply.Listed (Some hello_listed), listed, refl, refl, refl) in
+    Went _ _ (Replied (reply.Listed (Some hello_listed))) (listed ∷ []) disk_replaced (reply.Listed (Some hello_listed), listed, refl, refl, refl) in
     let none = Went _ _ (Answered true (answer.Fetch fetch.Nothing)) (empty_there ∷ []) told_one (Through (answer.Fetch fetch.Nothing) empty_there refl) in
     let first =
     Went _ _ (Answered true (answer.Fetch (fetch.Held hello_record))) (given_at 2 1 ∷ []) none
     (Through (answer.Fetch (fetch.Held hello_record)) (given_at 2 1) refl) in
-    let second =
     Went _ _ (Answered true (answer.Fetch (fetch.Held hello_record))) (given_at 3 2 ∷ []) first
-    (Through (answer.Fetch (fetch.Held hello_record)) (given_at 3 2) refl) in
-    let filled = Went _ _ (Answered true (answer.Refill refill.Kept)) (refilled ∷ []) second (Through (answer.Refill refill.Kept) refilled refl) in
+    (Through (answer.Fetch (fetch.Held hello_record)) (given_at 3 2) refl)
+
+pub finished_row : DoneRow plain mender 1 (of_actor mender mended) (answers.Rebuild (rebuild.Rebuilt 2 1))
+unfolding count_trailing_zeros
+finished_row =
+    let filled = Went _ _ (Answered true (answer.Refill refill.Kept)) (refilled ∷ []) block_copied (Through (answer.Refill refill.Kept) refilled refl) in
     record {
       work = _;
       course = Went _ _ (Replied (reply.Listed None)) (none_left ∷ []) filled (reply.Listed None, none_left, refl, refl, refl);

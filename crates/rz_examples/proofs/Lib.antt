@@ -3,7 +3,15 @@ pub mod Endings
 pub mod Bytes
 pub mod Names
 pub mod Steps
+pub mod Rows
 pub mod Mending
 pub mod Trouble
+pub mod Clients
+pub mod Disks
+pub mod Rebuilds
+pub mod Starts
+pub mod Rooms
+pub mod Locks
+pub mod Twice
 pub mod Refusals
 pub mod Ranges

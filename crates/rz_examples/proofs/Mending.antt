@@ -36,7 +36,7 @@ legal_disk = (
     none a l g (inr (inr (inr (inr has)))) = absurd has
 
 -- the one key that is published
-one_key : (t : Bool) (key : Key) (p : Published) (f : Facts) → same_key key block ≡ t → Some p ≡ with_length f (cond (t && true) (Some (1, 7)) None) → same_key key block ≡ true
+pub one_key : (t : Bool) (key : Key) (p : Published) (f : Facts) → same_key key block ≡ t → Some p ≡ with_length f (cond (t && true) (Some (1, 7)) None) → same_key key block ≡ true
 one_key true key p f q e = q
 one_key false key p f q e = cc
 
@@ -53,7 +53,7 @@ same_is key at same = let p = and_parts _ _ same in both key.fid key.block (eqb-
 pub not_less : (key : Key) → same_key key block ≡ true → IsLess key block → ⊥
 not_less key same less = let never = subst (λ k. IsLess k block) (same_is key block same) less in cc
 
-not_after : (key : Key) → same_key key block ≡ true → IsLess block key → ⊥
+pub not_after : (key : Key) → same_key key block ≡ true → IsLess block key → ⊥
 not_after key same less = let never = subst (λ k. IsLess block k) (same_is key block same) less in cc
 
 pub legal_sources : IsLegal plain with_sources

@@ -1,11 +1,14 @@
 -- The replies to the calls on names in the examples.
-use Rattle.std.proofs.Common.{ℕ, ◌+◌, ◌≡◌, List, [], ◌∷◌, Some, None, cond, refl, sym, ◌∙◌, length, arith}
+use Rattle.std.proofs.Common.{ℕ, ◌+◌, ◌≡◌, List, [], ◌∷◌, Option, Some, None, cond, refl, sym, ap, ◌∙◌, length, arith}
 use Rattle.std.specs.FinMap as maps
 use Rattle.std.specs.FinMap.{FinMap, entries-insert, get-insert, get-empty, len-insert, len-empty, len-entries}
 use Rattle.std.specs.declared.cmp.Ordering.{Ordering}
 use Rattle.rz_events.specs.Keys.{key_cmp}
-use Rattle.rz_export_model.specs.Tree.{Object, file_of}
-use Rattle.rz_export_model.specs.Export.{Block, Enrolled}
+use Rattle.rz_export_model.specs.Tree.{Object, Tree, new_file, file_of}
+use Rattle.std.specs.Option.{option_map_or}
+use Rattle.rz_events.specs.declared.tree.TreeFault.{TreeFault}
+use Rattle.rz_export_model.specs.Export.{Block, Enrolled, Export as Store, new_places, after_tree, after_begin, after_publish}
+use Rattle.rz_export_model.specs.TreeCalls.{tree_after}
 use Rattle.std.specs.Ordering.{nat_cmp, eq_by_cmp}
 use Rattle.std.specs.Cmp.{nat_cmp_total}
 use Rattle.rz_events.specs.declared.tree.TreeCall.TheVariants as call
@@ -15,10 +18,13 @@ use Rattle.rz_events.specs.declared.events.Word.TheVariants.{Export}
 use Rattle.rz_core.specs.History.{Facts, facts, of_word}
 use Rattle.rz_core.specs.ExportWord.{export_of}
 use Rattle.rz_core.specs.ExportRows.{names_reply}
-use Rattle.rz_examples.specs.Plain.{plain, path, file}
-use Rattle.rz_examples.specs.Ordinary.{with_file, with_write}
+use Rattle.rz_examples.specs.Plain.{plain, small, path, block, file, places}
+use Rattle.rz_examples.specs.Ordinary.{opened, kept_at, looked, with_file, with_begin, with_keeps, with_write}
 use Rattle.rz_examples.specs.Mended.{with_disk}
 use Rattle.rz_examples.specs.Ranged.{with_range}
+use Rattle.rz_examples.specs.Fences.{above_published, with_above}
+use Rattle.rz_examples.specs.Crashes.{with_start}
+use Rattle.rz_examples.specs.Locked.{updated}
 
 -- an empty map has no entries
 pub no_entries : {K : Type 0} (R : K → K → Ordering) (X : Type 0) → maps.entries (maps.empty {X = X} {R = R}) ≡ []
@@ -82,6 +88,76 @@ open_mended = simp maps_answer refl
 
 pub unlink_reply : reply.Gone (Some (file 5)) ≡ names_reply (export_of plain (facts with_write) (of_word Export with_write)) (call.Unlink path)
 unlink_reply = simp maps_answer refl
+
+pub unlink_opened : reply.Gone (Some (file 5)) ≡ names_reply (export_of plain (facts (opened 5 ∷ with_write)) (of_word Export (opened 5 ∷ with_write))) (call.Unlink path)
+unlink_opened = simp maps_answer refl
+
+pub open_looked : reply.File (file 5) ≡ names_reply (export_of plain (facts (looked ∷ opened 5 ∷ with_write)) (of_word Export (looked ∷ opened 5 ∷ with_write))) (call.OpenFile path)
+open_looked = simp maps_answer refl
+
+pub open_begun : reply.File (file 0) ≡ names_reply (export_of plain (facts with_begin) (of_word Export with_begin)) (call.OpenFile path)
+open_begun = simp maps_answer refl
+
+pub open_twice : reply.File (file 0) ≡ names_reply (export_of plain (facts (opened 0 ∷ with_file)) (of_word Export (opened 0 ∷ with_file))) (call.OpenFile path)
+open_twice = simp maps_answer refl
+
+pub open_updated : reply.File (file 5) ≡ names_reply (export_of plain (facts updated) (of_word Export updated)) (call.OpenFile path)
+open_updated = simp maps_answer refl
+
+pub open_started : reply.File (file 5) ≡ names_reply (export_of plain (facts with_start) (of_word Export with_start)) (call.OpenFile path)
+open_started = simp maps_answer refl
+
+pub open_kept : reply.File (file 0) ≡ names_reply (export_of plain (facts with_keeps) (of_word Export with_keeps)) (call.OpenFile path)
+open_kept = simp maps_answer refl
+
+-- the file as an object, after the first write
+abbrev written_file : Object
+written_file = record (new_file 1 places) { size = 5 }
+
+-- a second write of the same length leaves the file as it is
+written_again : (s : Store) → s.volume ≡ plain → maps.get s.tree.objects 1 ≡ Some written_file → file_of (after_publish s block above_published).tree 1 ≡ Some (file 5)
+written_again s volume_is is = simp (volume_is, is, get_object) refl
+
+-- the export before the second write
+abbrev store_mended : Store
+store_mended = export_of plain (facts with_above) (of_word Export with_disk)
+
+volume_there : store_mended.volume ≡ plain
+volume_there = simp maps_answer refl
+
+object_there : maps.get store_mended.tree.objects 1 ≡ Some written_file
+object_there = simp maps_answer refl
+
+-- an opening leaves the names as they are, refused or not
+unchanged : (refused : Option TreeFault) (t : Tree) → option_map_or (λ f. t) refused t ≡ t
+unchanged None t = refl
+unchanged (Some f) t = refl
+
+still : (t : Tree) (cid : ℕ) (nodes : List ℕ) → tree_after t cid nodes (call.OpenFile path) ≡ t
+still t cid nodes = unchanged _ t
+
+-- the export where the second write began
+abbrev store_begun : Store
+store_begun = after_begin (after_tree store_mended (call.OpenFile path)) block
+
+still_there : maps.get store_begun.tree.objects 1 ≡ Some written_file
+still_there =
+    let placed = new_places store_mended in
+    ap (λ (t : Tree). maps.get t.objects 1) (still store_mended.tree placed.cid placed.places) ∙ object_there
+
+pub file_above : file_of (export_of plain (facts with_above) (of_word Export with_above)).tree 1 ≡ Some (file 5)
+file_above = written_again store_begun volume_there still_there
+
+-- the same in the small volume
+
+pub create_small : (f : Facts) → reply.MadeFile (file 0) ≡ names_reply (export_of small f []) (call.Create path)
+create_small f = simp maps_answer refl
+
+pub open_small : reply.File (file 0) ≡ names_reply (export_of small (facts with_file) (of_word Export with_file)) (call.OpenFile path)
+open_small = simp maps_answer refl
+
+pub open_small_begun : reply.File (file 0) ≡ names_reply (export_of small (facts (kept_at 1 0 ∷ with_begin)) (of_word Export (kept_at 1 0 ∷ with_begin))) (call.OpenFile path)
+open_small_begun = simp maps_answer refl
 
 pub open_ranged : reply.File (file 8193) ≡ names_reply (export_of plain (facts with_range) (of_word Export with_range)) (call.OpenFile path)
 open_ranged = simp maps_answer refl

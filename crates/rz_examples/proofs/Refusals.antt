@@ -18,7 +18,7 @@ use Rattle.rz_core.specs.Legal.{IsLegal}
 use Rattle.rz_safety.specs.Rebuilt.{Ready, IsRun, AreRebuilt}
 use Rattle.rz_examples.specs.Plain.{plain, one, mender, path, file, block, hello, world, places}
 use Rattle.rz_examples.specs.Ordinary.{kept_at, with_begin}
-use Rattle.rz_examples.specs.Mistakes.{early, thin, drawn_twice, outrun, enrolled_named, under_fence, smaller, other_text, stale_look, older_stamp, joined, from_lost, unseen_move, idle_miss, late_outcome, unknown_stops, late_refill, thin_refill}
+use Rattle.rz_examples.specs.Mistakes.{early, thin, drawn_twice, outrun, enrolled_named, under_fence, smaller, other_text, stale_look, older_stamp, joined, from_lost, unseen_move, idle_miss, late_outcome, unknown_stops, invented, hidden, late_refill, thin_refill}
 use Rattle.rz_examples.specs.Answers.{part_found, read_elsewhere, part_short, counted_unwritten, made_by_rebuilder, refused_drop, fenced_drop, skipped, before_pass, passed_other}
 use Rattle.rz_examples.proofs.Endings.{said-last, said-rebuilder}
 use Rattle.rz_examples.proofs.Bytes.{IsFound, said-found}
@@ -159,6 +159,13 @@ not_unknown_stops legal = none legal.1.word
     none (inr (inr (inl is))) = absurd (omega (arith, is))
     none (inr (inr (inr (inl is)))) = absurd (omega (arith, is))
     none (inr (inr (inr (inr more)))) = more
+
+-- node 4 holds nothing, and node 1 the first write's record
+pub not_invented : ¬ IsLegal plain invented
+not_invented legal = legal.1.row.told.0
+
+pub not_hidden : ¬ IsLegal plain hidden
+not_hidden legal = legal.1.row.told (inl refl)
 
 -- Answers.
 

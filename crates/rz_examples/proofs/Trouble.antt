@@ -1,17 +1,11 @@
 -- The steps of the troubled histories.
-use Rattle.std.proofs.Common.{ℕ, Bool, true, false, ◌≡◌, ◌⊎◌, inl, inr, List, [], ◌∷◌, Some, cond, refl, arith, zero, suc, lit<, lit≤}
-use Rattle.std.proofs.lemmas.Nat.Bits.{bit_at_above}
-use Rattle.std.specs.Int.Count.{ones}
+use Rattle.std.proofs.Common.{ℕ, Bool, true, false, ◌≡◌, inl, inr, List, [], ◌∷◌, Some, cond, refl, lit<, lit≤}
 use Rattle.rz_events.specs.declared.keys.Key.{Key}
-use Rattle.rz_events.specs.declared.keys.Actor.{Actor}
 use Rattle.rz_events.specs.declared.events.Word.TheVariants.{Export}
-use Rattle.rz_events.specs.declared.events.Event.TheVariants as e
 use Rattle.rz_events.specs.declared.tree.TreeCall.TheVariants as call
 use Rattle.rz_events.specs.Events.{same_key}
-use Rattle.rz_export_model.specs.Export.{is_mask}
-use Rattle.rz_core.specs.History.{facts, of_word, of_actor, Has, IsPlace}
-use Rattle.rz_events.specs.Masks.{HasBit}
-use Rattle.rz_core.specs.ExportRows.{IsLess, HasKept, IsFree}
+use Rattle.rz_core.specs.History.{facts, of_word, of_actor}
+use Rattle.rz_core.specs.ExportRows.{IsLess}
 use Rattle.rz_core.specs.Legal.{IsLegal}
 use Rattle.rz_examples.specs.Plain.{plain, one, block, places, file, path, hello}
 use Rattle.rz_examples.specs.Ordinary.{kept_at, hello_published, with_begin}
@@ -19,37 +13,8 @@ use Rattle.rz_examples.specs.Troubled.{with_loss, with_three, lost_reply, short_
 use Rattle.rz_examples.proofs.Courses.{lost_gave, short_gave, short_got, unlinked_row}
 use Rattle.rz_examples.proofs.Names.{open_reply, open_mended, unlink_reply}
 use Rattle.rz_examples.proofs.Steps.{node_1, node_2, node_3, node_4, the_write, is_writer, room, legal_file, legal_begin, legal_write}
+use Rattle.rz_examples.proofs.Rows.{quorum_14, keeps_14, free_14}
 use Rattle.rz_examples.proofs.Mending.{legal_disk, not_less}
-
--- the positions of the mask 14
-bits : (p : ℕ) → HasBit 14 p → (p ≡ 1) ⊎ ((p ≡ 2) ⊎ (p ≡ 3))
-bits zero b = cc
-bits (suc zero) b = inl refl
-bits (suc (suc zero)) b = inr (inl refl)
-bits (suc (suc (suc zero))) b = inr (inr refl)
-bits (suc (suc (suc (suc p)))) b = let z = bit_at_above 14 4 (suc (suc (suc (suc p)))) (omega arith) (omega arith) in cc
-
-keeps : (p : ℕ) → HasBit 14 p → (n : ℕ) × IsPlace (facts with_three) 1 p n × HasKept (of_actor one with_three) one n block 1 p
-keeps p b = elim (bits p b) [
-  | inl z ↦ (2, (places, refl, rw z refl), inl (inr (inr (inl (rw z refl)))))
-  | inr rest ↦ elim rest [
-    | inl o ↦ (3, (places, refl, rw o refl), inl (inr (inl (rw o refl))))
-    | inr t ↦ (4, (places, refl, rw t refl), inl (inl (rw t refl)))
-  ]
-]
-
-quorum : is_mask plain.layout 14 ≡ true
-unfolding ones
-quorum = refl
-
-none_enrolled : (n s : ℕ) → IsFree (of_word Export with_three) n s
-none_enrolled n s by loss fence has = absurd (never by loss fence has)
-  where
-    never : (by : Actor) (loss fence : ℕ) → Has (of_word Export with_three) (e.Enroll by n loss fence) → ⊥
-    never by loss fence (inl is) = cc
-    never by loss fence (inr (inl is)) = cc
-    never by loss fence (inr (inr (inl is))) = cc
-    never by loss fence (inr (inr (inr has))) = has
 
 legal_three : IsLegal plain with_three
 legal_three = (
@@ -109,8 +74,8 @@ legal_lost_reply = (
       room = lit< tt;
       word = tt;
       row = record {
-        publishable = record { live = refl; newest = lit≤ tt; publishing = record { writer = is_writer (facts with_three) refl; quorum = quorum; kept = keeps } };
-        free = λ p n bit place. none_enrolled n 1;
+        publishable = record { live = refl; newest = lit≤ tt; publishing = record { writer = is_writer (facts with_three) refl; quorum = quorum_14; kept = keeps_14 (facts with_three) (of_actor one with_loss) one 1 refl } };
+        free = free_14 (facts with_three) (of_word Export with_three) 1 refl tt tt tt;
       };
     },
   ),

@@ -1,6 +1,5 @@
 -- Histories that are not legal since an operation says an answer that it has not come to.
 use Rattle.std.specs.Prelude.{ℕ, true, List, [], ◌∷◌, Some, None}
-use Rattle.rz_events.specs.declared.keys.Key.{Key}
 use Rattle.rz_events.specs.declared.records.Change.TheVariants as change
 use Rattle.rz_events.specs.declared.tree.TreeCall.TheVariants as call
 use Rattle.rz_events.specs.declared.tree.TreeReply.TheVariants as reply
@@ -11,15 +10,12 @@ use Rattle.rz_events.specs.declared.ends.RebuildEnd.TheVariants as rebuild
 use Rattle.rz_events.specs.declared.events.Answer.TheVariants as answers
 use Rattle.rz_events.specs.declared.events.Event.{Event}
 use Rattle.rz_events.specs.declared.events.Event.TheVariants as e
-use Rattle.rz_examples.specs.Plain.{one, two, mender, path, block, file, hello, world}
+use Rattle.rz_examples.specs.Plain.{one, two, mender, path, block, next_block, file, hello, world}
 use Rattle.rz_examples.specs.Ordinary.{begun, opened, looked, fetched_at, with_file, with_write}
-use Rattle.rz_examples.specs.Mended.{with_disk, listed, given_at, empty_there, none_left}
+use Rattle.rz_examples.specs.Mended.{with_disk, with_sources, listed, none_left}
 use Rattle.rz_examples.specs.Troubled.{down_at, short_causes, gone, dropped_at}
 
 -- Ranges.
-
-abbrev pub next_block : Key
-next_block = record { fid = 1; block = 1 }
 
 abbrev pub kept_next_at : ℕ → ℕ → Event
 kept_next_at node position = e.Did two node (change.Keep next_block 2 position)
@@ -53,9 +49,9 @@ counted_unwritten = e.Done one 2 (answers.Wrote 5) ∷ part_short
 abbrev pub skipped : List Event
 skipped = e.Done mender 1 (answers.Rebuild (rebuild.Rebuilt 2 0)) ∷ none_left ∷ listed ∷ with_disk
 
--- the node passes a record of another stamp over than the one that was told
+-- the rebuilder writes the block too, and the node passes that record over, and not the one that was told
 abbrev pub before_pass : List Event
-before_pass = e.Passed mender 1 block 3 3 ∷ given_at 3 2 ∷ given_at 2 1 ∷ empty_there ∷ listed ∷ with_disk
+before_pass = e.Passed mender 1 block 3 3 ∷ e.Did mender 1 (change.Keep block 3 0) ∷ e.Begin mender block 3 1 world ∷ with_sources
 
 abbrev pub passed_other : List Event
 passed_other = e.Done mender 1 (answers.Rebuild (rebuild.Rebuilt 2 1)) ∷ none_left ∷ before_pass

@@ -2,6 +2,13 @@ pub mod Plain
 pub mod Ordinary
 pub mod Mended
 pub mod Troubled
+pub mod Rivals
+pub mod Fences
+pub mod Menders
+pub mod Crashes
+pub mod Full
 pub mod Mistakes
 pub mod Answers
 pub mod Ranged
+pub mod Locked
+pub mod Runs

@@ -1,39 +1,16 @@
 -- Histories that are not legal: each ends with one event that an honest store would not have, after events of the
 -- ordinary and the mended history.
-use Rattle.std.specs.Prelude.{ℕ, false, List, ◌∷◌, Some, None, replicate}
-use Rattle.rz_events.specs.declared.files.Published.{Published}
-use Rattle.rz_events.specs.declared.records.Held.{Held}
+use Rattle.std.specs.Prelude.{false, List, ◌∷◌, Some, replicate}
 use Rattle.rz_events.specs.declared.records.Change.TheVariants as change
 use Rattle.rz_events.specs.declared.ends.Seen.TheVariants as seen
 use Rattle.rz_events.specs.declared.ends.ReadEnd.TheVariants as read
 use Rattle.rz_events.specs.declared.events.Event.{Event}
 use Rattle.rz_events.specs.declared.events.Event.TheVariants as e
 use Rattle.rz_examples.specs.Plain.{one, two, mender, block, hello, world}
-use Rattle.rz_examples.specs.Ordinary.{kept_at, accepted_on, looked, fetched_at, found, with_file, with_begin, with_keeps, with_write, with_records}
+use Rattle.rz_examples.specs.Ordinary.{opened, kept_at, accepted_on, looked, fetched_at, found, with_file, with_begin, with_keeps, with_write, with_records}
 use Rattle.rz_examples.specs.Troubled.{none_at, lost_at, looked_again}
+use Rattle.rz_examples.specs.Rivals.{begun_later, kept_later_at, world_published, world_record, with_both}
 use Rattle.rz_examples.specs.Mended.{lost, probed, enrolled, replaced, given_at, listed, with_disk}
-
--- The events of a second write of the block, by another client.
-
--- it begins when this stamp is published
-abbrev pub begun_later : ℕ → Event
-begun_later base = e.Begin two block 2 base world
-
-abbrev pub kept_later_at : ℕ → ℕ → Event
-kept_later_at node position = e.Did two node (change.Keep block 2 position)
-
-abbrev pub accepted_later : Event
-accepted_later = e.Publish two block 2 7 None
-
-abbrev pub world_published : Published
-world_published = record { stamp = 2; mask = 7; length = 5 }
-
-abbrev pub world_record : Held
-world_record = record { stamp = 2; length = 5; base = 1 }
-
--- the second write is acknowledged too
-abbrev pub with_both : List Event
-with_both = accepted_later ∷ kept_later_at 3 2 ∷ kept_later_at 2 1 ∷ kept_later_at 1 0 ∷ begun_later 1 ∷ with_write
 
 -- Writes.
 
@@ -79,13 +56,13 @@ stale_look = looked ∷ with_both
 abbrev pub older_stamp : List Event
 older_stamp =
     e.Got one 3 block false (read.Found 1 hello)
-    ∷ fetched_at 2 1 ∷ fetched_at 1 0 ∷ e.Look one block (Some world_published) ∷ with_both
+    ∷ fetched_at 2 1 ∷ fetched_at 1 0 ∷ e.Look one block (Some world_published) ∷ opened 5 ∷ with_both
 
 -- a read joins records of two writes
 abbrev pub joined : List Event
 joined =
     e.Got one 3 block false (read.Found 2 world) ∷ fetched_at 2 1 ∷ e.Fetch one 1 block 0 2 (Some world_record)
-    ∷ e.Look one block (Some world_published) ∷ with_both
+    ∷ e.Look one block (Some world_published) ∷ opened 5 ∷ with_both
 
 -- a lost node gives a record
 abbrev pub from_lost : List Event
@@ -103,13 +80,21 @@ idle_miss = e.Missed one 1 false ∷ with_write
 abbrev pub late_outcome : List Event
 late_outcome =
     e.Got one 3 block false (read.TooFew (seen.Nothing ∷ seen.Lost ∷ seen.Held ∷ seen.Missed ∷ replicate 12 seen.NotAsked)) ∷ e.Missed one 4 false
-    ∷ looked_again ∷ fetched_at 3 2 ∷ lost_at 2 ∷ none_at 1 0 ∷ looked ∷ e.Lose 2 1 ∷ with_disk
+    ∷ looked_again ∷ fetched_at 3 2 ∷ lost_at 2 ∷ none_at 1 0 ∷ looked ∷ opened 5 ∷ e.Lose 2 1 ∷ with_disk
 
 -- Nodes.
 
 -- a node stops that the volume does not have
 abbrev pub unknown_stops : List Event
 unknown_stops = e.Stop 5 ∷ with_file
+
+-- node 4 gives a record that it never held
+abbrev pub invented : List Event
+invented = fetched_at 4 3 ∷ looked ∷ opened 5 ∷ with_write
+
+-- node 1 holds the record, and says that it does not
+abbrev pub hidden : List Event
+hidden = none_at 1 0 ∷ looked ∷ opened 5 ∷ with_write
 
 -- Rebuilds.
 

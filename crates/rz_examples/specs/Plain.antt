@@ -8,16 +8,23 @@ use Rattle.rz_events.specs.declared.keys.Actor.TheVariants.{Client, Rebuilder}
 use Rattle.rz_events.specs.declared.files.NodeSpec.{NodeSpec}
 use Rattle.rz_events.specs.declared.files.FileInfo.{FileInfo}
 
--- a node with 64 pairs of cells
-abbrev pub plain_node : ℕ → NodeSpec
-plain_node sid = record { sid = sid; cells = 64 }
+-- a node with so many pairs of cells
+abbrev pub node_with : ℕ → ℕ → NodeSpec
+node_with cells sid = record { sid = sid; cells = cells }
 
-abbrev pub plain_cluster : Cluster
-plain_cluster = record { cid = 1; nodes = plain_node 1 ∷ plain_node 2 ∷ plain_node 3 ∷ plain_node 4 ∷ [] }
+abbrev pub cluster_with : ℕ → Cluster
+cluster_with cells = record { cid = 1; nodes = node_with cells 1 ∷ node_with cells 2 ∷ node_with cells 3 ∷ node_with cells 4 ∷ [] }
 
 -- Four nodes, where each block is written as three projections, of which any two give it back.
+abbrev pub volume_with : ℕ → Volume
+volume_with cells = record { layout = L0; clusters = cluster_with cells ∷ [] }
+
 abbrev pub plain : Volume
-plain = record { layout = L0; clusters = plain_cluster ∷ [] }
+plain = volume_with 64
+
+-- each node has room for the records of one block
+abbrev pub small : Volume
+small = volume_with 1
 
 abbrev pub one : Actor
 one = Client 1
@@ -28,6 +35,12 @@ two = Client 2
 abbrev pub mender : Actor
 mender = Rebuilder 1
 
+abbrev pub rival : Actor
+rival = Rebuilder 2
+
+abbrev pub third : Actor
+third = Rebuilder 3
+
 -- the path /f
 abbrev pub path : List ℕ
 path = 47 ∷ 102 ∷ []
@@ -35,6 +48,9 @@ path = 47 ∷ 102 ∷ []
 -- the first block of the first file
 abbrev pub block : Key
 block = record { fid = 1; block = 0 }
+
+abbrev pub next_block : Key
+next_block = record { fid = 1; block = 1 }
 
 abbrev pub places : List ℕ
 places = 1 ∷ 2 ∷ 3 ∷ 4 ∷ []

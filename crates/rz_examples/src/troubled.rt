@@ -1,7 +1,8 @@
 //! Histories in which something goes wrong, and which are legal.
 
 ghost use Rattle.rz_core.specs.Legal.{IsLegal};
-ghost use Rattle.rz_examples.specs.Plain.{plain};
+ghost use Rattle.rz_examples.specs.Plain.{plain, small};
+ghost use Rattle.rz_examples.specs.Full.{full};
 ghost use Rattle.rz_examples.specs.Troubled.{lost_reply, short_write, short_read, unlinked};
 
 /// A node keeps a record and its reply is lost; the write is acknowledged on three other nodes.
@@ -22,4 +23,9 @@ pub fn short_read()
 /// A file goes and its records are dropped, though the message to one node is lost.
 pub fn unlinked()
     ensures { IsLegal plain unlinked }
+{}
+
+/// A node with room for one block is asked to keep a second one, and is full.
+pub fn full()
+    ensures { IsLegal small full }
 {}

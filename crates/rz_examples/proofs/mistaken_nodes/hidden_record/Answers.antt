@@ -1,0 +1,5 @@
+use Rattle.rz_examples.proofs.Refusals.{not_hidden}
+use Rattle.rz_examples.proofs.mistaken_nodes.hidden_record.Goals as goal
+
+pub returns : goal.returns
+returns c = not_hidden
