@@ -74,7 +74,7 @@ play() {
             ;;
         esac
     done
-    echo "$example: $((number - 1)) runs, $refused of them refused"
+    echo "$example: $((number - 21)) allocations; where one is refused, $refused plays end with status 70"
 }
 
 play ordinary/ordinary-path replay --disks 4

@@ -2,6 +2,7 @@
 //! there is no memory, nobody is told.
 
 use crate::folder::LockFault;
+use clap::Error;
 use rz_disk::FileDisk;
 use rz_request::{Status, parse};
 use std::alloc::{AllocError, Global};
@@ -88,18 +89,27 @@ pub fn tell_status(rt: &HostRuntime, status: u8) {
     };
 }
 
-/// Says what is wrong with which word, as `clap` says it, and which words there are. Whoever asks for help is told
-/// these alone.
-pub fn tell_usage(rt: &HostRuntime, words: &[String]) {
+/// Says what is wrong with which word, as `clap` says it. Nothing is wrong with a request for help.
+fn tell_fault(rt: &HostRuntime, error: &Error) {
     let alloc = rt.alloc();
-    match parse(alloc, words) {
-        Ok(_) => {
+    if error.use_stderr() {
+        tell(rt, format!(in alloc; "{error}"));
+    }
+}
+
+/// Says what is wrong with which word, and which words there are.
+pub fn tell_usage(rt: &HostRuntime, words: &[String]) {
+    match parse(rt.alloc(), words) {
+        Ok(matches) => {
+            drop(matches);
             let _ = eprintln!(rt;
                 "error: a number has digits alone, and FOLDER begins with no hyphen\n"
             );
         }
-        Err(error) if error.use_stderr() => tell(rt, format!(in alloc; "{error}")),
-        Err(_) => {}
+        Err(error) => {
+            tell_fault(rt, &error);
+            drop(error);
+        }
     }
     let _ = eprintln!(rt; "{USAGE}");
 }
