@@ -1,5 +1,5 @@
 -- In which order numbers and calls come.
-use Rattle.std.proofs.Common.{ℕ, Bool, true, false, ◌≡◌, inl, inr, ◌≤◌, ◌+◌, List, [], ◌∷◌, Some, None, cond, refl, sym, ◌∙◌, ap, subst, arith}
+use Rattle.std.proofs.Common.{ℕ, Bool, true, false, ◌≡◌, ◌⊎◌, inl, inr, ◌≤◌, ◌+◌, List, [], ◌∷◌, Some, None, cond, refl, sym, ◌∙◌, ap, subst, arith}
 use Rattle.std.specs.List.{filter}
 use Rattle.rz_events.specs.Volume.{Volume}
 use Rattle.rz_events.specs.declared.keys.Key.{Key}
@@ -11,10 +11,11 @@ use Rattle.rz_events.specs.declared.events.Event.TheVariants as e
 use Rattle.rz_events.specs.Events.{by_of, word_of, same_actor, same_word}
 use Rattle.rz_core.specs.History.{Has}
 use Rattle.rz_core.specs.NodeWord.{phase, losses}
-use Rattle.rz_core.specs.ExportWord.{last_drawn, stamp_in, enrolled}
+use Rattle.rz_core.specs.ExportWord.{last_drawn, latest, stamp_in, enrolled}
 use Rattle.rz_core.specs.Legal.{IsLegalInRuns}
-use Rattle.rz_core.proofs.Stamps.{export, last_drawn-more, latest-drawn, accepted-latest, greater-left}
-use Rattle.rz_safety.specs.Order.{IsNew, AreRising, IsMendedInOrder, IsOrdered}
+use Rattle.rz_core.proofs.Stamps.{export, last_drawn-more, latest-drawn, latest-more, accepted-latest, greater-left, same_key-refl}
+use Rattle.rz_safety.specs.Order.{IsBegun, IsNew, AreRising, IsMendedInOrder, IsOrdered}
+use Rattle.rz_safety.specs.Reads.{IsAcked}
 use Rattle.rz_safety.proofs.Acked.{acked-accepted}
 use Rattle.rz_core.proofs.NodeLaws.{node, same_word-true, node-row, filter-has}
 use Rattle.rz_core.proofs.EnrollLaws.{enrolled-has, new_cases}
@@ -94,6 +95,20 @@ mended v (e.Replace by n loss fence ∷ h) legal =
     (mended v h legal.0, filter-has (λ y. same_actor by (by_of y)) h (e.Enroll by n loss fence) legal.1.row.enrolled)
 mended v (x ∷ h) legal = mended v h legal.0
 
+-- a write that began, or was acknowledged, is at most the newest of its key
+
+begun-most : (v : Volume) (h : List Event) → IsLegalInRuns v h → (by : Actor) (key : Key) (s base : ℕ) (text : List ℕ) → Has h (e.Begin by key s base text) → s ≤ latest (export h) key
+begun-most v [] legal by key s base text has = absurd has
+begun-most v (x ∷ h) legal by key s base text (inl is) =
+    subst (λ y. s ≤ latest (export (y ∷ h)) key) (sym is) (subst (λ (t : Bool). s ≤ cond t s (latest (export h) key)) (sym (same_key-refl key)) (omega arith))
+begun-most v (x ∷ h) legal by key s base text (inr has) =
+    let i = begun-most v h legal.0 by key s base text has in let m = latest-more v x h legal key in omega (arith, i, m)
+
+known-latest : (v : Volume) (h : List Event) → IsLegalInRuns v h → (key : Key) (s : ℕ) → IsAcked h key s ⊎ IsBegun h key s → s ≤ latest (export h) key
+known-latest v h legal key s (inl acked) =
+    let i = acked-accepted v h legal key s acked in let l = accepted-latest v h legal key i.0 i.1 in let le = i.2 in omega (arith, le, l)
+known-latest v h legal key s (inr (by, base, text, has)) = begun-most v h legal by key s base text has
+
 pub ordered : (v : Volume) (h : List Event) → IsLegalInRuns v h → IsOrdered h
 ordered v [] legal = tt
 ordered v (e.Begin by key stamp base text ∷ h) legal = (
@@ -109,11 +124,9 @@ ordered v (e.Begin by key stamp base text ∷ h) legal = (
 )
 ordered v (e.Publish by key stamp mask None ∷ h) legal = (
   ordered v h legal.0,
-  λ s acked.
-      let i = acked-accepted v h legal.0 key s acked in
-      let l = accepted-latest v h legal.0 key i.0 i.1 in
+  λ s before.
+      let l = known-latest v h legal.0 key s before in
       let n = legal.1.row.publishable.newest in
-      let le = i.2 in
-      omega (arith, le, l, n),
+      omega (arith, l, n),
 )
 ordered v (x ∷ h) legal = ordered v h legal.0

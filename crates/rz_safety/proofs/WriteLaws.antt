@@ -64,7 +64,7 @@ word-begun h by key s b = (b.0, b.1, filter-has (λ y. same_word Export (word_of
 denied : (v : Volume) (a : Actor) (h : List Event) → IsLegalInRuns v h → (question : Asked) (cause : Denial) → last is_export (of_actor a h) ≡ Some (e.Denied a question cause) → IsDenied h a question cause
 denied v a h legal question cause is =
     let n = newest-export a h (e.Denied a question cause) is in
-    record { earlier = before_export a h; there = n.rest; cause_is = (newest-legal v a h (before_export a h) (e.Denied a question cause) legal n).1.row }
+    record { newest = is; there = n.rest; cause_is = (newest-legal v a h (before_export a h) (e.Denied a question cause) legal n).1.row }
 
 overtaken : (v : Volume) (a : Actor) (h : List Event) → IsLegalInRuns v h → (key : Key) (stamp later : ℕ) → last is_export (of_actor a h) ≡ Some (e.Revoked a key stamp later) → IsOvertaken h a key later
 overtaken v a h legal key stamp later is =
@@ -78,17 +78,17 @@ overtaken v a h legal key stamp later is =
     λ by s b. subst (λ (z : List Event). IsBegunBy z by key s) n.rest.1
     (begun-later n.rest.0 (e.Revoked a key stamp later ∷ hr) by key s (begun-later (e.Revoked a key stamp later ∷ []) hr by key s b)) in
     record {
-      own = (stamp, now a stamp (writer-begun hr a key stamp row.writer), row.above);
+      own = (stamp, is, now a stamp (writer-begun hr a key stamp row.writer), row.above);
       other = (other.0, subst (IsBegunBy h other.0 key) (sym same) (now other.0 (latest (export hr) key) (word-begun hr other.0 key (latest (export hr) key) other.1)));
     }
 
 write-ended : (v : Volume) (a : Actor) (h : List Event) → IsLegalInRuns v h → (key : Key) (end : WriteEnd) → GaveRow v (facts h) (of_actor a h) a key end → IsWriteEnd v h a key end
 write-ended v a h legal key (write.Acked stamp mask) r =
     let has = own-has is_publish a h (e.Publish a key stamp mask None) r in
-    record { begun = published-begun v h legal a key stamp mask has; published = has }
+    record { begun = published-begun v h legal a key stamp mask has; published = r }
 write-ended v a h legal key (write.TooFew causes) r = record {
   stamp = r.stamp;
-  begun = (r.base, r.text, own-has is_begin a h (e.Begin a key r.stamp r.base r.text) r.begun);
+  begun = (r.base, r.text, r.begun);
   outcomes = (r.places, r.placed, r.causes_are);
   many = r.many;
 }

@@ -11,6 +11,10 @@ use Rattle.rz_safety.specs.Reads.{IsAcked}
 abbrev pub IsStamp : List Event → ℕ → Type 0
 IsStamp h s = (by : Actor) × (key : Key) × (base : ℕ) × (text : List ℕ) × Has h (e.Begin by key s base text)
 
+-- it was drawn as that of a write of the key
+abbrev pub IsBegun : List Event → Key → ℕ → Type 0
+IsBegun h key s = (by : Actor) × (base : ℕ) × (text : List ℕ) × Has h (e.Begin by key s base text)
+
 -- the number was drawn as a fence
 abbrev pub IsFence : List Event → ℕ → Type 0
 IsFence h s = (by : Actor) × (node loss : ℕ) × Has h (e.Enroll by node loss s)
@@ -38,10 +42,11 @@ IsMendedInOrder (e.Enroll by node loss fence ∷ h) = IsMendedInOrder h × Has h
 IsMendedInOrder (e.Replace by node loss fence ∷ h) = IsMendedInOrder h × Has h (e.Enroll by node loss fence)
 IsMendedInOrder (_ ∷ h) = IsMendedInOrder h
 
--- Each write has as its base at least every stamp of the key that was acknowledged when it began, and each write that is
--- acknowledged has at least the stamp of every one of the key that was acknowledged before.
+-- Each write has as its base at least every stamp of the key that was acknowledged when it began. Each write that is acknowledged has
+-- at least the stamp of every one of the key that was acknowledged, or that began, before: so a write of the key with a greater stamp
+-- begins after it.
 abbrev pub IsOrdered : List Event → Type 0
 IsOrdered [] = Unit {0}
 IsOrdered (e.Begin by key stamp base text ∷ h) = IsOrdered h × ((s : ℕ) → IsAcked h key s → (s ≤ base) × (s < stamp))
-IsOrdered (e.Publish by key stamp mask None ∷ h) = IsOrdered h × ((s : ℕ) → IsAcked h key s → s ≤ stamp)
+IsOrdered (e.Publish by key stamp mask None ∷ h) = IsOrdered h × ((s : ℕ) → IsAcked h key s ⊎ IsBegun h key s → s ≤ stamp)
 IsOrdered (_ ∷ h) = IsOrdered h
