@@ -4,14 +4,12 @@
 //!
 //! They stand beside the crate and not in it, since a crate with tests is proved twice.
 //!
-//! In reading order: `playing`, `faults`, `outages`, `places`.
+//! In reading order: `playing`, `faults`, `outages`.
 #![tactic(auto)]
 
 #[cfg(test)]
 mod faults;
 #[cfg(test)]
 mod outages;
-#[cfg(test)]
-mod places;
 #[cfg(test)]
 mod playing;
