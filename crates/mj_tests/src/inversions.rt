@@ -6,7 +6,7 @@ ghost use Rattle.mj_angles.specs.declared.layout.Layout.TheVariants.{L2};
 ghost use Rattle.mj_inverse.specs.Fits.{empty_search};
 
 use mj_angles::Layout;
-use mj_forward::{project, project_eight};
+use mj_forward::project;
 use mj_inverse::{Inconsistent, Work, WorkEight};
 use rz_words::Block;
 use std::alloc::{AllocError, Global};
@@ -138,28 +138,51 @@ fn one_of_eight(rt: HostRuntime) -> Result<(), Fail> {
     Ok(())
 }
 
-/// Eight copies of one block come back from their projections side by side.
+/// Each word eight times: the words of eight equal blocks, side by side.
+fn eightfold(alloc: Global, words: &[u64]) -> Result<Vec<u64>, AllocError>
+    requires { length words.now ≤ 4096 }
+    ensures { IfOk result (λ v. vec_len v ≡ 8 * length words.now) }
+{
+    let mut all = vec![in alloc; 0u64; 8 * words.len()]?;
+    for i in 0..all.len() {
+        all[i] = words[i / 8];
+    }
+    Ok(all)
+}
+
+/// Adds the projections of eight copies of a block at eight positions of layout 2, of which this is the first.
+fn add_copies(rt: &(impl Abort + AllocGlobal), work: &mut WorkEight, block: &Block, first: u8)
+    requires empty { work.old ≡ empty_search 8 64 }
+    requires rows { block.now.rows ≡ 8 }
+    requires cols { block.now.cols ≡ 64 }
+    requires first { first ≤ 8 }
+    ensures rows { work.new.rows ≡ 8 }
+    ensures cols { work.new.cols ≡ 64 }
+    ensures pairs { length work.new.pairs ≡ 8 }
+{
+    for i in 0..8u8 {
+        let bins = bins_at(rt.alloc(), block, first + i).expect(rt, "memory");
+        let all = eightfold(rt.alloc(), &bins).expect(rt, "memory");
+        drop(bins);
+        work.add(Layout::L2.angle(first + i), &all);
+        drop(all);
+    }
+}
+
+/// Eight copies of a block come back from their projections side by side.
 #[test]
 fn eight_copies(rt: HostRuntime) -> Result<(), Fail> {
-    let mut words = vec![in rt.alloc(); 0u64; 4096].expect(&rt, "memory");
-    for (place, word) in words.iter_mut().enumerate() {
-        *word = place as u64 / 8;
-    }
-    let mut left = vec![in rt.alloc(); 0u64; 2064].expect(&rt, "memory");
-    project_eight(&words, 2, 256, -2, &mut left);
-    let mut next = vec![in rt.alloc(); 0u64; 2056].expect(&rt, "memory");
-    project_eight(&words, 2, 256, -1, &mut next);
-    let mut work = WorkEight::new(rt.alloc(), 2, 256).expect(&rt, "memory");
-    work.add(-2, &left);
-    work.add(-1, &next);
-    let mut out = vec![in rt.alloc(); 9u64; 4096].expect(&rt, "memory");
+    let block = counted(rt.alloc()).expect(&rt, "memory");
+    let wanted = eightfold(rt.alloc(), block.words()).expect(&rt, "memory");
+    let mut work = WorkEight::new(rt.alloc(), 8, 64).expect(&rt, "memory");
+    let mut out = vec![in rt.alloc(); 0u64; 4096].expect(&rt, "memory");
+    add_copies(&rt, &mut work, &block, 0);
     let failed = work.solve(&mut out);
-    let are_back = out == words;
-    drop(out);
     drop(work);
-    drop(next);
-    drop(left);
-    drop(words);
+    drop(block);
+    let are_back = out == wanted;
+    drop(out);
+    drop(wanted);
     assert!(rt; failed == 0 && are_back);
     Ok(())
 }

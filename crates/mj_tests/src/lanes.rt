@@ -1,6 +1,8 @@
 //! Kernels over words, at lengths about their vectors of eight.
 
-use rz_lanes::{all_zero, first_nonzero, xor_into};
+ghost use Rattle.std.specs.Prelude.{◌≤◌};
+
+use rz_lanes::{all_zero, first_nonzero, xor_eight, xor_into};
 use std::process::Abort;
 use std::test::Fail;
 
@@ -19,6 +21,25 @@ fn adds(rt: &(impl Abort + AllocGlobal), length: usize) -> bool {
     once && twice
 }
 
+/// The last whole group of eight words is added to, and the words about it stay.
+fn adds_group(rt: &(impl Abort + AllocGlobal), length: usize) -> bool
+    requires { 8 ≤ length }
+{
+    let group = length / 8 - 1;
+    let added = vec![in rt.alloc(); 5u64; length].expect(rt, "memory");
+    let mut words = vec![in rt.alloc(); 3u64; length].expect(rt, "memory");
+    let mut wanted = vec![in rt.alloc(); 3u64; length].expect(rt, "memory");
+    for place in 8 * group..8 * group + 8 {
+        wanted[place] = 6;
+    }
+    xor_eight(&mut words, group, &added, group);
+    let are_added = words == wanted;
+    drop(wanted);
+    drop(words);
+    drop(added);
+    are_added
+}
+
 /// Whether the first word that is not zero is found at each place, and none where there is none.
 fn finds(rt: &(impl Abort + AllocGlobal), length: usize) -> bool {
     let mut words = vec![in rt.alloc(); 0u64; length].expect(rt, "memory");
@@ -35,6 +56,9 @@ fn finds(rt: &(impl Abort + AllocGlobal), length: usize) -> bool {
 fn lengths_about_eight(rt: HostRuntime) -> Result<(), Fail> {
     for length in LENGTHS {
         assert!(rt; adds(&rt, length) && finds(&rt, length), "{length} words");
+        if length >= 8 {
+            assert!(rt; adds_group(&rt, length), "{length} words");
+        }
     }
     Ok(())
 }

@@ -8,12 +8,12 @@ use Rattle.rz_core.specs.History.{facts, of_word, of_actor}
 use Rattle.rz_core.specs.ExportRows.{IsLess}
 use Rattle.rz_core.specs.Legal.{IsLegal}
 use Rattle.rz_examples.specs.Plain.{plain, one, block, places, file, path, hello}
-use Rattle.rz_examples.specs.Ordinary.{kept_at, hello_published, with_begin}
+use Rattle.rz_examples.specs.Ordinary.{hello_published}
 use Rattle.rz_examples.specs.Troubled.{with_loss, with_three, lost_reply, short_write, short_read, unlinked}
 use Rattle.rz_examples.proofs.Courses.{lost_gave, short_gave, short_got, unlinked_row}
 use Rattle.rz_examples.proofs.Names.{open_reply, open_mended, unlink_reply}
-use Rattle.rz_examples.proofs.Steps.{node_1, node_2, node_3, node_4, the_write, is_writer, room, legal_file, legal_begin, legal_write}
-use Rattle.rz_examples.proofs.Rows.{quorum_14, keeps_14, free_14}
+use Rattle.rz_examples.proofs.Steps.{node_1, node_2, node_3, node_4, the_write, is_writer, legal_file, legal_begin, legal_write}
+use Rattle.rz_examples.proofs.Rows.{writes, first_keep, quorum_14, keeps_14, free_14}
 use Rattle.rz_examples.proofs.Mending.{legal_disk, not_less}
 
 legal_three : IsLegal plain with_three
@@ -21,49 +21,14 @@ legal_three = (
   (
     (
       (
-        (
-          legal_begin,
-          record {
-            room = lit< tt;
-            word = node_1;
-            row = record {
-              keep = record { up = refl; fenced = lit< tt; writing = record { writer = is_writer (facts with_begin) refl; place = (places, refl, refl) } };
-              above = tt;
-              cell = inr (room (facts with_begin) 1 (lit< tt));
-            };
-          },
-        ),
+        (legal_begin, first_keep _ _ _ one 1 1 0 node_1 (lit< tt) (lit< tt) (writes _ one 1 1 0 the_write refl refl refl (places, refl, refl))),
         record { room = lit< tt; word = tt; row = refl },
       ),
-      record {
-        room = lit< tt;
-        word = node_2;
-        row = record {
-          keep = record { up = refl; fenced = lit< tt; writing = record { writer = is_writer (facts with_loss) refl; place = (places, refl, refl) } };
-          above = tt;
-          cell = inr (room (facts with_loss) 2 (lit< tt));
-        };
-      },
+      first_keep _ _ _ one 2 1 1 node_2 (lit< tt) (lit< tt) (writes _ one 2 1 1 the_write refl refl refl (places, refl, refl)),
     ),
-    record {
-      room = lit< tt;
-      word = node_3;
-      row = record {
-        keep = record { up = refl; fenced = lit< tt; writing = record { writer = is_writer (facts (kept_at 2 1 ∷ with_loss)) refl; place = (places, refl, refl) } };
-        above = tt;
-        cell = inr (room (facts (kept_at 2 1 ∷ with_loss)) 3 (lit< tt));
-      };
-    },
+    first_keep _ _ _ one 3 1 2 node_3 (lit< tt) (lit< tt) (writes _ one 3 1 2 the_write refl refl refl (places, refl, refl)),
   ),
-  record {
-    room = lit< tt;
-    word = node_4;
-    row = record {
-      keep = record { up = refl; fenced = lit< tt; writing = record { writer = is_writer (facts (kept_at 3 2 ∷ kept_at 2 1 ∷ with_loss)) refl; place = (places, refl, refl) } };
-      above = tt;
-      cell = inr (room (facts (kept_at 3 2 ∷ kept_at 2 1 ∷ with_loss)) 4 (lit< tt));
-    };
-  },
+  first_keep _ _ _ one 4 1 3 node_4 (lit< tt) (lit< tt) (writes _ one 4 1 3 the_write refl refl refl (places, refl, refl)),
 )
 
 pub legal_lost_reply : IsLegal plain lost_reply
