@@ -506,7 +506,7 @@ newest-of v f (e.Publish by at stamp mask None ∷ h) legal key = go (newest-of 
     ]
 
     at-most : same_key key at ≡ true → (s : ℕ) → IsAcked h key s → s ≤ stamp
-    at-most same s acked = (ordered v (e.Publish by at stamp mask None ∷ h) legal).1 s (subst (λ (k : Key). IsAcked h k s) (same_key-true key at same) acked)
+    at-most same s acked = (ordered v (e.Publish by at stamp mask None ∷ h) legal).1 s (inl (subst (λ (k : Key). IsAcked h k s) (same_key-true key at same) acked))
 
     newer : same_key key at ≡ true → (old : Option (ℕ × ℕ)) → accepted (of_word Export h) key ≡ old → (b : Bool) → is_newer stamp old ≡ b → text_in (f.wrote stamp) ≡ text_of f (cond b (Some (stamp, mask)) old)
     newer same old at_old true is = refl
