@@ -38,7 +38,7 @@ use Rattle.rz_metadata.specs.declared.metadata.Metadata.{Metadata}
 use Rattle.rz_metadata.specs.declared.metadata.Metadata.TheVariants.{InMemory, Journaled}
 use Rattle.rz_metadata.specs.Enrolled.{loss_of}
 use Rattle.rz_metadata.specs.Reopened.{AllTextsOf, IsAsItCame, MakesExport}
-use Rattle.rz_metadata.specs.Stands.{disk_of, export_in, is_journaled, Stands}
+use Rattle.rz_metadata.specs.Stands.{CountsFaults, IsJournalOpen, disk_of, export_in, is_journaled, Stands}
 use Rattle.rz_node_laws.specs.Images.{AreImages, IsImaged, geometry_in}
 use Rattle.rz_nodes.specs.declared.formatting.Server.{Server}
 use Rattle.rz_nodes.specs.Formatted.{geometry_of}
@@ -64,7 +64,8 @@ use Rattle.rz_driver.specs.Endings.{StandsForLog}
 use Rattle.rz_driver.specs.Journals.{KeepsLog, journal_place, StandsForJournal}
 use Rattle.rz_driver.specs.Coherence.{AreBytes, IsCoherent, KnowsLengths}
 use Rattle.rz_driver_actors.specs.Agendas.{IsEmptyAgenda}
-use Rattle.rz_driver.specs.Worlds.{is_known, left_behind, agenda_in, world_of, numbers_in, IsDriver, GoesAfter, HoldsBetweenTurns}
+use Rattle.rz_driver.specs.Worlds.{HasCounted, is_known, left_behind, agenda_in, world_of, numbers_in, IsDriver, GoesAfter, HoldsBetweenTurns}
+use Rattle.rz_driver.proofs.Cuts.{each-server}
 use Rattle.rz_driver.proofs.KeptCalls.{told-calls}
 use Rattle.rz_driver.proofs.MadeLemmas.{own-cells, empty-in, empty-agendas}
 use Rattle.rz_driver.proofs.NewCoherence.{no-hands}
@@ -242,8 +243,8 @@ module _ {D : Type 0} {G : Ghosts D} (v : Volume) (rules : IsVolume v) (export :
   servers : AllByRecursion (IsServer v) row
   servers = opened-servers G.tells G.meter G.text G.image v f specs nodes row count over.made cells
 
-  pub over-ready : IsDriver d
-  over-ready = record {
+  pub over-ready : IsJournalOpen export → IsDriver d
+  over-ready is_open = record {
     servers = subst (λ (u : Volume). AllByRecursion (IsServer u) row) (sym over.volume) servers;
     numbers = numbers ∙ ap (λ (u : Volume). map (λ (n : NodeSpec). n.sid) (nodes_of u.clusters)) (sym over.volume);
     bins = let same : max_bins_of d.volume.layout ≡ max_bins_of v.layout = ap (λ (u : Volume). max_bins_of u.layout) over.volume in let bins = over.bins in omega (arith, same, bins);
@@ -251,6 +252,7 @@ module _ {D : Type 0} {G : Ghosts D} (v : Volume) (rules : IsVolume v) (export :
     count = over.count;
     locks = λ n. ap (λ (h : Held). maps.get h n) over.locks ∙ maps.get-empty _ n ∙ sym (ap (λ (s : APlayer). s.lock) (empty-in d.agendas.items over.agendas (Client n)));
     no_locks = λ n. ap (λ (s : APlayer). s.lock) (empty-in d.agendas.items over.agendas (Rebuilder n));
+    journal = subst IsJournalOpen (sym over.export_is) is_open;
   }
 
   pub over-world : world_of d ≡ world_after (state_in row) (export_in d.shared.export) []
@@ -276,6 +278,19 @@ module _ {D : Type 0} {G : Ghosts D} (v : Volume) (rules : IsVolume v) (export :
   module _ (disks : List D) (journal : D) (are : disks ≡ nodes ++ journal ∷ []) where
     abbrev counts : ℕ → ℕ
     counts = faults_at G.meter disks
+
+    -- the journal's disk is behind those of the nodes
+    at-last : faults (G.meter journal) ≡ counts (journal_place d)
+    at-last =
+        let place : journal_place d ≡ length nodes = ap (λ (u : Volume). length (nodes_of u.clusters)) over.volume ∙ sym count in
+        ap (faults_in G.meter) (sym (get-behind nodes journal [])) ∙ ap (λ (ds : List D). faults_in G.meter (slice_get ds (length nodes))) (sym are) ∙ ap counts (sym place)
+
+    pub over-counted : IsDriver d → CountsFaults G.meter (faults (G.meter journal)) export → HasCounted d (counts (length (nodes_of v.clusters)))
+    over-counted ready counted = record {
+      each = each-server d ready;
+      journal = subst (λ (u : Volume). CountsFaults G.meter (counts (length (nodes_of u.clusters))) d.shared.export) over.volume
+          (subst (λ (n : ℕ). CountsFaults G.meter n d.shared.export) at-last (subst (CountsFaults G.meter (faults (G.meter journal))) (sym over.export_is) counted));
+    }
 
     metered : AreMetered (fused_meter G.meter) (numbers_in d) row d.shared.log.events counts
     metered =
@@ -357,15 +372,12 @@ module _ {D : Type 0} {G : Ghosts D} (v : Volume) (rules : IsVolume v) (export :
 
         has-journal : StandsForJournal d (left_behind counts old)
         has-journal =
-            let place : journal_place d ≡ length nodes = ap (λ (u : Volume). length (nodes_of u.clusters)) over.volume ∙ sym count in
-            let counted : faults (G.meter journal) ≡ counts (journal_place d) =
-            ap (faults_in G.meter) (sym (get-behind nodes journal [])) ∙ ap (λ (ds : List D). faults_in G.meter (slice_get ds (length nodes))) (sym are) ∙ ap counts (sym place) in
             let same : changing_calls h ≡ changing_calls (d.shared.log.events ++ old) = ap₂ calls_told (sym on.restart.facts_are) (sym on.restart.export_word) ∙ ap changing_calls (sym whole) in
             let here : KeepsLog G.tells G.meter G.image (faults (G.meter journal)) export (d.shared.log.events ++ old) = (changing_calls h, told-calls G.tells told (d.shared.log.events ++ old) (changing_calls h) same, kept) in
             record {
               volume = ap (λ (m : Metadata D). (export_in m).volume) over.export_is ∙ volume ∙ sym over.volume;
               bytes = λ tells. subst AreBytes (sym on.restart.facts_are ∙ ap facts (sym whole)) bytes;
-              keeps = λ few. subst (λ (n : ℕ). KeepsLog G.tells G.meter G.image n d.shared.export (d.shared.log.events ++ old)) counted
+              keeps = λ few. subst (λ (n : ℕ). KeepsLog G.tells G.meter G.image n d.shared.export (d.shared.log.events ++ old)) at-last
                   (subst (λ (m : Metadata D). KeepsLog G.tells G.meter G.image (faults (G.meter journal)) m (d.shared.log.events ++ old)) (sym over.export_is) here);
             }
 

@@ -15,7 +15,7 @@ use Rattle.rz_core.specs.History.{facts, of_word}
 use Rattle.rz_events.specs.declared.events.Word.TheVariants.{Node}
 use Rattle.rz_export_model.specs.Export.{Export, new_export}
 use Rattle.rz_node.specs.View.{NodeView}
-use Rattle.rz_metadata.specs.Stands.{export_in, Stands}
+use Rattle.rz_metadata.specs.Stands.{CountsFaults, export_in, Stands}
 use Rattle.rz_play.specs.World.{World, new_world}
 use Rattle.rz_nodes.specs.declared.fault.DriverFault.{DriverFault}
 use Rattle.rz_nodes.specs.declared.fault.DriverFault.TheVariants as driver
@@ -34,7 +34,8 @@ use Rattle.rz_driver_actors.specs.declared.shared.Shared.{Shared}
 use Rattle.rz_driver.specs.Formatted.{IsBehindJournal, IsJournalBack, AreBackWithJournal, IsFault, IsJournalRefused}
 use Rattle.rz_driver.specs.Journals.{KeepsLog, journal_place, StandsForJournal}
 use Rattle.rz_driver.specs.Coherence.{AreBytes, IsCoherent}
-use Rattle.rz_driver.specs.Worlds.{anew, world, world_of, numbers_in, IsDriver, IsCoherentAfter, HoldsBetweenTurns}
+use Rattle.rz_driver.specs.Worlds.{HasCounted, anew, world, world_of, numbers_in, IsDriver, IsCoherentAfter, HoldsBetweenTurns}
+use Rattle.rz_driver.proofs.Cuts.{each-server}
 use Rattle.rz_driver.proofs.ExportWords.{bytes-none}
 use Rattle.rz_driver.proofs.KeptCalls.{no-calls}
 use Rattle.rz_driver.proofs.NodeOrders.{ready-with}
@@ -103,7 +104,7 @@ module _ {D : Type 0} {G : Ghosts D} (journal : D) (d e : Driver D G) (behind : 
   behind-ready ready = ready-with d e ready behind.volume (ap (λ (v : Vec Agenda). v.items) behind.agendas)
       (subst (λ (p : Shared (UnderFuse D) D). AllByRecursion (IsServer d.volume) p.servers.items) (sym behind.shared) ready.servers)
       (ap (λ (p : Shared (UnderFuse D) D). numbers_of p.servers.items) behind.shared)
-      (ap (λ (p : Shared (UnderFuse D) D). p.locks) behind.shared) (ap (λ (p : Shared (UnderFuse D) D). p.bins.items) behind.shared)
+      (ap (λ (p : Shared (UnderFuse D) D). p.locks) behind.shared) (ap (λ (p : Shared (UnderFuse D) D). p.bins.items) behind.shared) behind.is_open
 
   module _ (v : Volume) (volume : d.volume ≡ v) (new : world_of d ≡ new_world v) where
     pub behind-world : world_of e ≡ new_world v
@@ -146,13 +147,16 @@ module _ {D : Type 0} {G : Ghosts D} (journal : D) (d e : Driver D G) (behind : 
           let three = subst (λ (p : Shared (UnderFuse D) D). IsCoherent (fused_image G.image) d.volume [] (world_of e) e.agendas.items p.servers.items) (sym behind.shared) two in
           subst (λ (u : Volume). IsCoherent (fused_image G.image) u [] (world_of e) e.agendas.items e.shared.servers.items) (sym behind.volume) three
 
+      -- its disk is behind those of the nodes
+      at-last : faults (G.meter journal) ≡ now (journal_place e)
+      at-last =
+          let place : journal_place e ≡ length nodes = ap (λ (u : Volume). length (nodes_of u.clusters)) (behind.volume ∙ volume) ∙ sym count in
+          ap (faults_in G.meter) (sym (get-behind nodes journal [])) ∙ ap now (sym place)
+
       has-journal : StandsForJournal e (anew now)
       has-journal =
-          let place : journal_place e ≡ length nodes = ap (λ (u : Volume). length (nodes_of u.clusters)) (behind.volume ∙ volume) ∙ sym count in
-          let counted : faults (G.meter journal) ≡ now (journal_place e) =
-          ap (faults_in G.meter) (sym (get-behind nodes journal [])) ∙ ap now (sym place) in
           let none : e.shared.log.events ++ [] ≡ [] = append-nil e.shared.log.events ∙ ap (λ (w : World). w.log) behind-world in
-          let first = subst (λ (n : ℕ). Stands G.tells G.meter G.image n e.shared.export []) counted behind.stands in
+          let first = subst (λ (n : ℕ). Stands G.tells G.meter G.image n e.shared.export []) at-last behind.stands in
           record {
             volume = ap (λ (s : Export). s.volume) behind.export ∙ sym behind.volume;
             bytes = λ told. subst (λ (h : List Event). AreBytes (facts h)) (sym none) bytes-none;
@@ -161,6 +165,13 @@ module _ {D : Type 0} {G : Ghosts D} (journal : D) (d e : Driver D G) (behind : 
 
       pub behind-holds : HoldsBetweenTurns d (anew before) → HoldsBetweenTurns e (anew now)
       behind-holds held = (metered held.0, coherence held.1, λ exact. has-journal, record { short = held.3.short })
+
+      pub behind-counted : IsDriver e → HasCounted e (now (length (nodes_of v.clusters)))
+      behind-counted ready = record {
+        each = each-server e ready;
+        journal = subst (λ (u : Volume). CountsFaults G.meter (now (length (nodes_of u.clusters))) e.shared.export) (behind.volume ∙ volume)
+            (subst (λ (n : ℕ). CountsFaults G.meter n e.shared.export) at-last behind.counted);
+      }
 
 -- ---- the disks that come back
 

@@ -220,17 +220,17 @@ module _ {D : Type 0} {G : Ghosts D} (d f : Driver D G) (is : d ≡ f) (h' : Lis
       (metered-counts (fused_meter G.meter) b.counts (numbers_in d) d.shared.servers.items d.shared.log.events held-there.0)
 
 -- however it ended
-pub leaves-right : {D : Type 0} {G : Ghosts D} (d : Driver D G) (b : Before) → LeavesAtEnd d b → HasRightDisks d b.log
-leaves-right d b (inl held) = still-right d d refl d.shared.log.events refl b held
-leaves-right d b (inr left) = left.1
+pub leaves-right : {D : Type 0} {G : Ghosts D} (d : Driver D G) (refused : Option Call) (b : Before) → LeavesAtEnd d refused b → HasRightDisks d b.log
+leaves-right d refused b (inl held) = still-right d d refl d.shared.log.events refl b held.0
+leaves-right d refused b (inr left) = left.1
 
-pub leaves-named : {D : Type 0} {G : Ghosts D} (d : Driver D G) (b : Before) → LeavesAtEnd d b → numbers_of d.shared.servers.items ≡ numbers_in d
-leaves-named d b (inl held) = held.0.named
-leaves-named d b (inr left) = left.0.named
+pub leaves-named : {D : Type 0} {G : Ghosts D} (d : Driver D G) (refused : Option Call) (b : Before) → LeavesAtEnd d refused b → numbers_of d.shared.servers.items ≡ numbers_in d
+leaves-named d refused b (inl held) = held.0.0.named
+leaves-named d refused b (inr left) = left.0.named
 
-pub leaves-short : {D : Type 0} {G : Ghosts D} (d : Driver D G) (b : Before) → LeavesAtEnd d b → length b.log < 2 ^ 63 + 512
-leaves-short d b (inl held) = held.3.short
-leaves-short d b (inr left) = left.3.short
+pub leaves-short : {D : Type 0} {G : Ghosts D} (d : Driver D G) (refused : Option Call) (b : Before) → LeavesAtEnd d refused b → length b.log < 2 ^ 63 + 512
+leaves-short d refused b (inl held) = held.0.3.short
+leaves-short d refused b (inr left) = left.3.short
 
 -- ---- an order
 

@@ -1,13 +1,18 @@
 -- A driver of which a record was asked.
-use Rattle.std.proofs.Common.{ℕ, List, [], ◌∷◌, refl, ap}
+use Rattle.std.proofs.Common.{◌≡◌, ℕ, List, [], ◌∷◌, length, refl, sym, ◌∙◌, ap, subst}
+use Rattle.std.specs.Vec.{vec_len}
+use Rattle.std.proofs.lemmas.List.{length-map}
 use Rattle.std.specs.Global.{Vec}
 use Rattle.rz_disk.specs.UnderFuse.{UnderFuse}
 use Rattle.rz_disk.specs.declared.disk.Disk.{Ghosts}
+use Rattle.rz_events.specs.Volume.{Volume, nodes_of}
+use Rattle.rz_nodes.specs.declared.formatting.Server.{Server}
+use Rattle.rz_driver_nodes.specs.Servers.{numbers_of}
 use Rattle.rz_events.specs.declared.keys.Key.{Key}
 use Rattle.rz_events.specs.declared.keys.Actor.TheVariants.{Admin}
 use Rattle.rz_events.specs.declared.nodes.FetchAnswer.{FetchAnswer}
 use Rattle.rz_events.specs.declared.events.Event.{Event}
-use Rattle.rz_metadata.specs.Stands.{export_in}
+use Rattle.rz_metadata.specs.Stands.{CountsFaults, IsJournalOpen, export_in}
 use Rattle.rz_node_model.specs.NodeEvents.{fetch_event}
 use Rattle.rz_scrub_report.specs.Stores.{IsOnlyAsked, IsAnsweredFetch}
 use Rattle.rz_driver.specs.declared.driver.Driver.{Driver}
@@ -18,7 +23,7 @@ use Rattle.rz_driver.specs.Fetches.{GivesOf, Metered, state_of}
 use Rattle.rz_driver_nodes.specs.Asked.{fused_text}
 use Rattle.rz_driver.specs.OnlyAsked.{WasOnlyAsked}
 use Rattle.rz_driver_nodes.specs.Images.{fused_image}
-use Rattle.rz_driver.specs.Worlds.{IsDriver}
+use Rattle.rz_driver.specs.Worlds.{HasCounted, IsDriver}
 use Rattle.rz_driver.proofs.NodeOrders.{ready-with}
 use Rattle.rz_driver_nodes.proofs.FetchLemmas.{gives-before, numbers-asked, servers-asked}
 
@@ -29,6 +34,18 @@ module _ {D : Type 0} {G : Ghosts D} (d e : Driver D G) (asked : WasOnlyAsked d 
       (servers-asked (fused_text G.text) (fused_image G.image) d.volume d.shared.servers.items e.shared.servers.items asked.nodes ready.servers)
       (numbers-asked (fused_text G.text) (fused_image G.image) d.shared.servers.items e.shared.servers.items asked.nodes)
       (ap (λ (s : Shared (UnderFuse D) D). s.locks) asked.shared) (ap (λ (s : Shared (UnderFuse D) D). s.bins.items) asked.shared)
+      (subst (λ (s : Shared (UnderFuse D) D). IsJournalOpen s.export) (sym asked.shared) ready.journal)
+
+  -- there is a server for each node still, and nothing was asked of the journal
+  pub asked-counted : (first : ℕ) → HasCounted d first → HasCounted e first
+  asked-counted first had =
+      let named = numbers-asked (fused_text G.text) (fused_image G.image) d.shared.servers.items e.shared.servers.items asked.nodes in
+      let old : length (numbers_of d.shared.servers.items) ≡ vec_len d.shared.servers = length-map d.shared.servers.items (λ (s : Server (UnderFuse D)). s.sid) ∙ sym d.shared.servers.ok.0 in
+      let new : length (numbers_of e.shared.servers.items) ≡ vec_len e.shared.servers = length-map e.shared.servers.items (λ (s : Server (UnderFuse D)). s.sid) ∙ sym e.shared.servers.ok.0 in
+      record {
+        each = sym new ∙ ap length named ∙ old ∙ had.each ∙ ap (λ (v : Volume). length (nodes_of v.clusters)) (sym asked.volume);
+        journal = subst (λ (s : Shared (UnderFuse D) D). CountsFaults G.meter first s.export) (sym asked.shared) had.journal;
+      }
 
   -- as one sees it who scrubs it
   module _ (key : Key) (stamp : ℕ) (given : FetchAnswer) (n : ℕ) where

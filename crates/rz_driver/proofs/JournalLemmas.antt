@@ -1,5 +1,5 @@
 -- The journal of a driver: what its disk stands for after a turn, after an order, and where a play ended.
-use Rattle.std.proofs.Common.{◌≡◌, inl, inr, ℕ, ◌-◌, ◌^◌, ◌<◌, true, IsTrue, List, [], length, ◌∷◌, ◌++◌, Option, Some, refl, sym, ◌∙◌, ap, subst}
+use Rattle.std.proofs.Common.{◌≡◌, inl, inr, ℕ, ◌-◌, ◌^◌, ◌<◌, true, IsTrue, List, [], length, ◌∷◌, ◌++◌, Option, Some, None, refl, sym, ◌∙◌, ap, subst}
 use Rattle.rz_disk.specs.declared.disk.Disk.{Ghosts}
 use Rattle.rz_events.specs.Volume.{Volume, nodes_of}
 use Rattle.rz_events.specs.declared.keys.Actor.{Actor}
@@ -41,7 +41,7 @@ use Rattle.rz_driver.specs.Journals.{KeepsLog, EndsLog, journal_place, StandsFor
 use Rattle.rz_driver.specs.Coherence.{AreBytes}
 use Rattle.rz_driver.specs.Worlds.{is_known, world_of, IsCoherentAfter, LeavesAtEnd}
 use Rattle.rz_driver_actors.proofs.ExportEvents.{node-stays, noted-stays}
-use Rattle.rz_driver_actors.proofs.StoreLemmas.{same-store, ends-with-it}
+use Rattle.rz_driver_actors.proofs.StoreLemmas.{same-store}
 use Rattle.rz_driver.proofs.ExportWords.{same-behind, bytes-same, bytes-more, event-bytes}
 use Rattle.rz_driver.proofs.KeptCalls.{calls-more, calls-same}
 
@@ -63,7 +63,7 @@ arming-stays n passes pick h h' log_is = ap (of_word Export) log_is ∙ node-sta
 coherence-legal : {D : Type 0} {G : Ghosts D} (d : Driver D G) (old : List Event) → IsCoherentAfter d old → IsTrue G.tells → length (d.shared.log.events ++ old) < 2 ^ 64 - 1 → IsLegalInRuns d.volume (d.shared.log.events ++ old)
 coherence-legal d old coherence told few = in-runs d.volume old (behind old (world_of d)) (coherence told few).fine
 
-module _ {D : Type 0} {G : Ghosts D} (d e : Driver D G) (volume : e.volume ≡ d.volume) (store : IsSameStore d.shared.export e.shared.export) (b : Before) (h : List Event) (log : h ≡ d.shared.log.events)
+module _ {D : Type 0} {G : Ghosts D} (d e : Driver D G) (volume : e.volume ≡ d.volume) (store : IsSameStore G.meter d.shared.export e.shared.export) (b : Before) (h : List Event) (log : h ≡ d.shared.log.events)
     (has : is_known G.tells b ≡ true → StandsForJournal d b) (known : is_known G.tells b ≡ true) where
   abbrev h' : List Event
   h' = e.shared.log.events
@@ -138,13 +138,13 @@ module _ {D : Type 0} {G : Ghosts D} (d e : Driver D G) (volume : e.volume ≡ d
     journal-goes-on told untold by machine long (AsksNothing same words) = journal-no-more untold same words
 
   -- where a turn was not taken
-  pub journal-ends : h' ≡ h → EndsOn G.tells G.meter G.image d.shared.export e.shared.export → LeavesJournal e b
-  journal-ends same ends = record {
+  pub journal-ends : h' ≡ h → (refused : Option Call) → EndsOn G.tells G.meter G.image d.shared.export e.shared.export refused → LeavesJournal e refused b
+  journal-ends same refused ends = record {
     volume = volume-there;
     bytes = subst (λ (k : List Event). IsTrue G.tells → AreBytes (facts (k ++ b.log))) (sym same) had-bytes;
     ends = λ few.
         let was = had-calls (subst (λ (k : List Event). length (k ++ b.log) < 2 ^ 64 - 1) same few) in
-        subst (λ (n : ℕ). EndsLog G.tells G.meter G.image n e.shared.export (h' ++ b.log)) place-there
+        subst (λ (n : ℕ). EndsLog G.tells G.meter G.image n e.shared.export refused (h' ++ b.log)) place-there
         (was.0, subst (λ (k : List Event). AreCallsOf G.tells (k ++ b.log) was.0) (sym same) was.1, ends (b.counts (journal_place d)) was.0 was.2);
   }
 
@@ -157,8 +157,8 @@ module _ {D : Type 0} {G : Ghosts D} (d e : Driver D G) (volume : e.volume ≡ d
 
 -- where nothing was asked of the export
 module _ {D : Type 0} {G : Ghosts D} (d e : Driver D G) (volume : e.volume ≡ d.volume) (export : e.shared.export ≡ d.shared.export) (b : Before) (has : is_known G.tells b ≡ true → StandsForJournal d b) where
-  stored : IsSameStore d.shared.export e.shared.export
-  stored = same-store d.shared.export e.shared.export export
+  stored : IsSameStore G.meter d.shared.export e.shared.export
+  stored = same-store G.meter d.shared.export e.shared.export export
 
   -- a node was ordered something
   pub journal-ordered : IsNoCall d.volume → IsCoherentAfter d b.log → GrowsBy d.shared.log.events e.shared.log.events → of_word Export e.shared.log.events ≡ of_word Export d.shared.log.events → is_known G.tells b ≡ true → StandsForJournal e b
@@ -168,14 +168,14 @@ module _ {D : Type 0} {G : Ghosts D} (d e : Driver D G) (volume : e.volume ≡ d
   pub journal-stays : e.shared.log.events ≡ d.shared.log.events → is_known G.tells b ≡ true → StandsForJournal e b
   journal-stays same known = journal-as-it-was d e volume stored b d.shared.log.events refl has known same export
 
-  pub journal-still : e.shared.log.events ≡ d.shared.log.events → is_known G.tells b ≡ true → LeavesJournal e b
-  journal-still same known = journal-ends d e volume stored b d.shared.log.events refl has known same
-      (ends-with-it G.tells G.meter G.image d.shared.export e.shared.export export)
+  pub journal-still : e.shared.log.events ≡ d.shared.log.events → is_known G.tells b ≡ true → LeavesJournal e None b
+  journal-still same known = journal-ends d e volume stored b d.shared.log.events refl has known same None
+      (subst (λ (m : Metadata D). EndsOn G.tells G.meter G.image d.shared.export m None) (sym export) (λ first calls stood. stood))
 
-pub journal-left : {D : Type 0} {G : Ghosts D} (d : Driver D G) (b : Before) → StandsForJournal d b → LeavesJournal d b
-journal-left d b had = record { volume = had.volume; bytes = had.bytes; ends = λ few. (let keeps = had.keeps few in (keeps.0, keeps.1, inl keeps.2)) }
+pub journal-left : {D : Type 0} {G : Ghosts D} (d : Driver D G) (b : Before) → StandsForJournal d b → LeavesJournal d None b
+journal-left d b had = record { volume = had.volume; bytes = had.bytes; ends = λ few. (let keeps = had.keeps few in (keeps.0, keeps.1, keeps.2)) }
 
 -- however a play ended
-pub leaves-journal : {D : Type 0} {G : Ghosts D} (d : Driver D G) (b : Before) → LeavesAtEnd d b → is_known G.tells b ≡ true → LeavesJournal d b
-leaves-journal d b (inl held) known = journal-left d b (held.2 known)
-leaves-journal d b (inr left) known = left.2 known
+pub leaves-journal : {D : Type 0} {G : Ghosts D} (d : Driver D G) (refused : Option Call) (b : Before) → LeavesAtEnd d refused b → is_known G.tells b ≡ true → LeavesJournal d refused b
+leaves-journal d refused b (inl held) known = subst (λ (o : Option Call). LeavesJournal d o b) (sym held.1) (journal-left d b (held.0.2 known))
+leaves-journal d refused b (inr left) known = left.2 known

@@ -12,11 +12,12 @@ mod NodeOrders
 mod DriverMeters
 mod DriverCoherence
 mod NewCoherence
-mod FetchLemmas
+pub mod FetchLemmas
 mod ExportWords
 mod KeptCalls
+mod Cuts
 mod JournalLemmas
-mod JournalEndings
+pub mod JournalEndings
 mod BehindJournal
 mod Closed
 mod AgainLemmas

@@ -16,7 +16,7 @@ use Rattle.rz_events.specs.declared.keys.Actor.{Actor}
 use Rattle.rz_events.specs.declared.keys.Actor.TheVariants.{Client, Rebuilder}
 use Rattle.rz_core.specs.NodeRows.{cells_among, cells_of}
 use Rattle.rz_export_model.specs.Export.{new_export}
-use Rattle.rz_metadata.specs.Stands.{export_in}
+use Rattle.rz_metadata.specs.Stands.{IsJournalOpen, export_in}
 use Rattle.rz_node_model.specs.States.{NodeState, fresh}
 use Rattle.rz_play.specs.World.{Agenda as APlayer, empty_agenda, new_world}
 use Rattle.rz_driver.specs.declared.driver.Driver.{Driver}
@@ -114,8 +114,8 @@ empty-agendas layout (s ∷ ss) all = (
 
 module _ {D : Type 0} {G : Ghosts D} (tells : Bool) (meter : D → Meter) (text : D → List ℕ) (image : D → List ℕ → Type 0) (v : Volume) (rules : IsVolume v) (disks : List D) (count : length disks ≡ length (nodes_of v.clusters)) (d : Driver D G) (volume : d.volume ≡ v)
     (made : AreFormatted tells meter text image v.layout (nodes_of v.clusters) disks d.shared.servers.items) (agendas : AllByRecursion IsEmptyAgenda d.agendas.items) where
-  pub new-ready : length d.agendas.items ≡ 80 → length d.shared.bins.items ≡ max_bins_of v.layout → d.shared.locks ≡ maps.empty → IsDriver d
-  new-ready eighty bins locks = record {
+  pub new-ready : length d.agendas.items ≡ 80 → length d.shared.bins.items ≡ max_bins_of v.layout → d.shared.locks ≡ maps.empty → IsJournalOpen d.shared.export → IsDriver d
+  new-ready eighty bins locks journal = record {
     servers = subst (λ (u : Volume). AllByRecursion (IsServer u) d.shared.servers.items) (sym volume)
         (are-servers tells meter text image v.layout v refl (nodes_of v.clusters) disks d.shared.servers.items count made (own-cells (nodes_of v.clusters) rules.distinct_sids));
     numbers = new-numbers tells meter text image v.layout (nodes_of v.clusters) disks d.shared.servers.items count made ∙ ap (λ (u : Volume). map (λ (n : NodeSpec). n.sid) (nodes_of u.clusters)) (sym volume);
@@ -124,6 +124,7 @@ module _ {D : Type 0} {G : Ghosts D} (tells : Bool) (meter : D → Meter) (text 
     count = eighty;
     locks = λ n. ap (λ h. maps.get h n) locks ∙ maps.get-empty _ n ∙ sym (ap (λ (s : APlayer). s.lock) (empty-in d.agendas.items agendas (Client n)));
     no_locks = λ n. ap (λ (s : APlayer). s.lock) (empty-in d.agendas.items agendas (Rebuilder n));
+    journal = journal;
   }
 
 -- and its world is that of a play that is new

@@ -18,7 +18,7 @@ use Rattle.rz_events.specs.declared.events.Event.{Event}
 use Rattle.rz_events.specs.declared.events.Event.TheVariants as event
 use Rattle.rz_core.specs.NodeRows.{cells_of}
 use Rattle.rz_locks.specs.Held.{Held}
-use Rattle.rz_metadata.specs.Stands.{export_in}
+use Rattle.rz_metadata.specs.Stands.{IsJournalOpen, export_in}
 use Rattle.rz_node_model.specs.States.{NodeState}
 use Rattle.rz_node_model.specs.Answers.{IsNodeAnswer}
 use Rattle.rz_node_model.specs.Afterwards.{after_answer}
@@ -90,8 +90,8 @@ module _ {X : Type 0} where
 -- ---- a driver of which a node was called
 
 module _ {D : Type 0} {G : Ghosts D} (d e : Driver D G) (ready : IsDriver d) (volume : e.volume ≡ d.volume) (agendas : e.agendas.items ≡ d.agendas.items) where
-  pub ready-with : AllByRecursion (IsServer d.volume) e.shared.servers.items → numbers_of e.shared.servers.items ≡ numbers_of d.shared.servers.items → e.shared.locks ≡ d.shared.locks → e.shared.bins.items ≡ d.shared.bins.items → IsDriver e
-  ready-with servers numbers locks bins = record {
+  pub ready-with : AllByRecursion (IsServer d.volume) e.shared.servers.items → numbers_of e.shared.servers.items ≡ numbers_of d.shared.servers.items → e.shared.locks ≡ d.shared.locks → e.shared.bins.items ≡ d.shared.bins.items → IsJournalOpen e.shared.export → IsDriver e
+  ready-with servers numbers locks bins journal = record {
     servers = subst (λ (v : Volume). AllByRecursion (IsServer v) e.shared.servers.items) (sym volume) servers;
     numbers = numbers ∙ ready.numbers ∙ ap (λ (v : Volume). map (λ (n : NodeSpec). n.sid) (nodes_of v.clusters)) (sym volume);
     bins = subst (λ (v : Volume). max_bins_of v.layout ≤ length e.shared.bins.items) (sym volume) (subst (λ (xs : List ℕ). max_bins_of d.volume.layout ≤ length xs) (sym bins) ready.bins);
@@ -99,17 +99,18 @@ module _ {D : Type 0} {G : Ghosts D} (d e : Driver D G) (ready : IsDriver d) (vo
     count = ap length agendas ∙ ready.count;
     locks = subst (λ (h : Held). AreLocks h e.agendas.items) (sym locks) (subst (AreLocks d.shared.locks) (sym agendas) ready.locks);
     no_locks = subst HaveNoLocks (sym agendas) ready.no_locks;
+    journal = journal;
   }
 
-  pub called-ready : (n : ℕ) → IsCalledAt n d.shared.servers.items e.shared.servers.items → e.shared.locks ≡ d.shared.locks → e.shared.bins.items ≡ d.shared.bins.items → IsDriver e
-  called-ready n c locks bins = ready-with
+  pub called-ready : (n : ℕ) → IsCalledAt n d.shared.servers.items e.shared.servers.items → e.shared.locks ≡ d.shared.locks → e.shared.bins.items ≡ d.shared.bins.items → e.shared.export ≡ d.shared.export → IsDriver e
+  called-ready n c locks bins export = ready-with
       (servers-kept d.volume d.shared.servers.items e.shared.servers.items c.place c.server c.after c.is c.servers c.called.sid c.called.geometry ready.servers)
-      (numbers-kept d.shared.servers.items e.shared.servers.items c.place c.server c.after c.is c.servers c.called.sid) locks bins
+      (numbers-kept d.shared.servers.items e.shared.servers.items c.place c.server c.after c.is c.servers c.called.sid) locks bins (subst IsJournalOpen (sym export) ready.journal)
 
-  pub armed-ready : (passes pick n : ℕ) → IsArming passes pick n d.shared.servers.items e.shared.servers.items d.shared.log.events e.shared.log.events → e.shared.locks ≡ d.shared.locks → e.shared.bins.items ≡ d.shared.bins.items → IsDriver e
-  armed-ready passes pick n a locks bins = ready-with
+  pub armed-ready : (passes pick n : ℕ) → IsArming passes pick n d.shared.servers.items e.shared.servers.items d.shared.log.events e.shared.log.events → e.shared.locks ≡ d.shared.locks → e.shared.bins.items ≡ d.shared.bins.items → e.shared.export ≡ d.shared.export → IsDriver e
+  armed-ready passes pick n a locks bins export = ready-with
       (servers-kept d.volume d.shared.servers.items e.shared.servers.items a.place a.server a.after a.is a.servers a.armed.sid a.armed.geometry ready.servers)
-      (numbers-kept d.shared.servers.items e.shared.servers.items a.place a.server a.after a.is a.servers a.armed.sid) locks bins
+      (numbers-kept d.shared.servers.items e.shared.servers.items a.place a.server a.after a.is a.servers a.armed.sid) locks bins (subst IsJournalOpen (sym export) ready.journal)
 
 -- ---- the world after it
 

@@ -13,6 +13,7 @@ use Rattle.rz_events.specs.declared.files.NodeSpec.{NodeSpec}
 use Rattle.rz_events.specs.declared.keys.Actor.{Actor}
 use Rattle.rz_events.specs.declared.operations.Operation.{Operation}
 use Rattle.rz_events.specs.Events.{same_actor}
+use Rattle.rz_metadata.specs.Stands.{IsJournalOpen}
 use Rattle.rz_operation.specs.Answers.{IsOperation}
 use Rattle.rz_play.specs.World.{Agenda as APlayer, with_agenda}
 use Rattle.rz_driver.specs.declared.driver.Driver.{Driver}
@@ -48,6 +49,7 @@ still-ready {D = D} d e by place s b ready volume shared agendas at low here age
   count = ap length agendas ∙ length-set d.agendas.items place b ∙ ready.count;
   locks = subst (λ (p : Shared (UnderFuse D) D). AreLocks p.locks e.agendas.items) (sym shared) (subst (AreLocks d.shared.locks) (sym agendas) both.0);
   no_locks = subst HaveNoLocks (sym agendas) both.1;
+  journal = subst (λ (p : Shared (UnderFuse D) D). IsJournalOpen p.export) (sym shared) ready.journal;
 }
   where
     both : AreLocks d.shared.locks (set d.agendas.items place b) × HaveNoLocks (set d.agendas.items place b)

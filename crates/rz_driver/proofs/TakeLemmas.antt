@@ -13,6 +13,7 @@ use Rattle.rz_events.specs.declared.files.NodeSpec.{NodeSpec}
 use Rattle.rz_events.specs.declared.keys.Actor.{Actor}
 use Rattle.rz_events.specs.declared.keys.Actor.TheVariants.{Client, Rebuilder, Admin}
 use Rattle.rz_events.specs.declared.events.Event.{Event}
+use Rattle.rz_metadata.specs.Stands.{IsJournalOpen}
 use Rattle.rz_play.specs.World.{World, Agenda as APlayer, at_work}
 use Rattle.rz_play.specs.Turns.{IsTurn}
 use Rattle.rz_play.specs.Free.{IsTurnOver}
@@ -67,8 +68,8 @@ module _ {D : Type 0} {G : Ghosts D} (by : Actor) (place : ℕ) (d e : Driver D 
   locks : AreLocks e.shared.locks (set ss place b) × HaveNoLocks (set ss place b)
   locks = locks-after by ss place at low a0 a b here kept d.volume.layout p e.shared acts ready.locks ready.no_locks
 
-  pub drives : length e.shared.bins.items ≡ length d.shared.bins.items → IsDriver e
-  drives bins = record {
+  pub drives : length e.shared.bins.items ≡ length d.shared.bins.items → IsJournalOpen e.shared.export → IsDriver e
+  drives bins journal = record {
     servers = subst (λ (v : Volume). AllByRecursion (IsServer v) e.shared.servers.items) (sym volume) (servers-after d.volume d.volume.layout by a b p e.shared acts ready.servers);
     numbers = numbers-after d.volume.layout by a b p e.shared acts ∙ ready.numbers ∙ ap (λ (v : Volume). map (λ (n : NodeSpec). n.sid) (nodes_of v.clusters)) (sym volume);
     bins = subst (λ (v : Volume). max_bins_of v.layout ≤ length e.shared.bins.items) (sym volume) (subst (λ (n : ℕ). max_bins_of d.volume.layout ≤ n) (sym bins) ready.bins);
@@ -77,6 +78,7 @@ module _ {D : Type 0} {G : Ghosts D} (by : Actor) (place : ℕ) (d e : Driver D 
     count = ap length agendas ∙ length-set ss place b ∙ ready.count;
     locks = subst (AreLocks e.shared.locks) (sym agendas) locks.0;
     no_locks = subst HaveNoLocks (sym agendas) locks.1;
+    journal = journal;
   }
 
 -- and the world is that after the turn

@@ -1,5 +1,5 @@
 -- A driver that goes on over the disks which earlier runs left.
-use Rattle.std.specs.Prelude.{ℕ, ◌≡◌, ◌≢◌, ◌⊎◌, Bool, true, IsTrue, List, [], ◌∷◌, ◌++◌, map, length, Some, option_to_list}
+use Rattle.std.specs.Prelude.{ℕ, ◌≡◌, ◌≢◌, ◌⊎◌, Bool, true, IsTrue, List, [], ◌∷◌, ◌++◌, map, length, Option, Some, option_to_list}
 use Rattle.std.specs.List.{AllByRecursion}
 use Rattle.std.specs.FinMap as maps
 use Rattle.mj_angles.specs.Layout.{max_bins_of}
@@ -7,6 +7,7 @@ use Rattle.rz_disk.specs.Meter.{Meter, Rises, faults}
 use Rattle.rz_disk.specs.declared.disk.Disk.{Ghosts}
 use Rattle.rz_events.specs.Volume.{Volume, nodes_of}
 use Rattle.rz_events.specs.declared.files.NodeSpec.{NodeSpec}
+use Rattle.rz_events.specs.declared.export.Call.{Call}
 use Rattle.rz_events.specs.declared.events.Event.{Event}
 use Rattle.rz_core.specs.History.{facts}
 use Rattle.rz_export_model.specs.Export.{Export}
@@ -17,7 +18,7 @@ use Rattle.rz_metadata.specs.declared.metadata.Metadata.{Metadata}
 use Rattle.rz_metadata.specs.Enrolled.{loss_of}
 use Rattle.rz_metadata.specs.Reopened.{MakesExport, journal_fault_number}
 use Rattle.rz_metadata.specs.Stands.{disk_of, export_in, refusal_of}
-use Rattle.rz_metadata.specs.declared.journaled.JournalRefusal.TheVariants.{Full}
+use Rattle.rz_metadata.specs.declared.journaled.JournalRefusal.TheVariants.{Failed}
 use Rattle.rz_nodes.specs.declared.refusal.OpenRefusal.{OpenRefusal}
 use Rattle.rz_nodes.specs.declared.refusal.OpenRefusal.TheVariants as refusal
 use Rattle.rz_nodes.specs.Opened.{AreDisksBack, AreOpened, IsCause}
@@ -43,9 +44,9 @@ pub record AreLeft {D : Type 0} (image : D → List ℕ → Type 0) (v : Volume)
   pub last : StandsForLog (image journal) v h
   pub bytes : AreBytes (facts h)
 
--- A play ended so that its disks stand for its log: between two turns, or where the journal was full.
-abbrev pub EndsWhole : {D : Type 0} {G : Ghosts D} → Driver D G → Before → Type 0
-EndsWhole d b = HoldsBetweenTurns d b ⊎ (LeavesAtEnd d b × (refusal_of d.shared.export ≡ Some Full))
+-- A play ended so that its disks stand for its log: between two turns, or where no device call of the journal failed.
+abbrev pub EndsWhole : {D : Type 0} {G : Ghosts D} → Driver D G → (refused : Option Call) → Before → Type 0
+EndsWhole d refused b = HoldsBetweenTurns d b ⊎ (LeavesAtEnd d refused b × (refusal_of d.shared.export ≢ Some Failed))
 
 -- What was opened.
 

@@ -39,16 +39,17 @@ AreCallsOf false h calls = AreCallsTold (of_word Export h) calls
 abbrev pub StandsForLog : (List ℕ → Type 0) → Volume → List Event → Type 0
 StandsForLog image v h = StandFor image v (changing_calls h)
 
--- Where the journal was full, there is no half for the export and one call more. Where its disk failed, its count of faults rose.
+-- By what the journal refused, if it did. Where it was full, there is no half for the export and one call more. Where its disk failed,
+-- its count of faults rose, and the call that was asked for may stand there or not.
 
-abbrev pub EndsFor : Option JournalRefusal → Bool → (List ℕ → Type 0) → (first now : ℕ) → Volume → List Call → Call → Type 0
-EndsFor None tells image first now v calls c = IsTrue tells → StandForEither image v calls c
-EndsFor (Some Full) tells image first now v calls c = OverfillsHalf (after_all (new_export v 0) calls) c × (IsTrue tells → StandFor image v calls)
-EndsFor (Some Failed) tells image first now v calls c = Rises first now × (IsTrue tells → StandForEither image v calls c)
+abbrev pub EndsFor : Option JournalRefusal → (refused : Option Call) → Bool → (List ℕ → Type 0) → (first now : ℕ) → Volume → List Call → Type 0
+EndsFor None None tells image first now v calls = IsTrue tells → StandFor image v calls
+EndsFor (Some Full) (Some c) tells image first now v calls = OverfillsHalf (after_all (new_export v 0) calls) c × (IsTrue tells → StandFor image v calls)
+EndsFor (Some Failed) (Some c) tells image first now v calls = Rises first now × (IsTrue tells → StandForEither image v calls c)
+EndsFor why refused tells image first now v calls = ⊥
 
--- the calls of the log, and the one that was not replied to, if there was one
-pub record EndsAsRefused (refusal : Option JournalRefusal) (tells : Bool) (image : List ℕ → Type 0) (first now : ℕ) (v : Volume) (h : List Event) : Type 0 where
+-- the calls of the log, and the one that was refused, if one was
+pub record EndsAsRefused (refusal : Option JournalRefusal) (refused : Option Call) (tells : Bool) (image : List ℕ → Type 0) (first now : ℕ) (v : Volume) (h : List Event) : Type 0 where
   pub calls : List Call
   pub calls_are : AreCallsOf tells h calls
-  pub call : Call
-  pub ends : EndsFor refusal tells image first now v calls call
+  pub ends : EndsFor refusal refused tells image first now v calls

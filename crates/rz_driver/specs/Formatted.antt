@@ -4,7 +4,7 @@ use Rattle.rz_disk.specs.Meter.{Meter, Rises, faults}
 use Rattle.rz_disk.specs.declared.disk.Disk.{Ghosts}
 use Rattle.rz_events.specs.Volume.{Volume, nodes_of}
 use Rattle.rz_export_model.specs.Export.{new_export}
-use Rattle.rz_metadata.specs.Stands.{export_in, is_journaled, Stands}
+use Rattle.rz_metadata.specs.Stands.{CountsFaults, IsJournalOpen, Stands, export_in, is_journaled}
 use Rattle.rz_nodes.specs.Formatted.{AreBack}
 use Rattle.rz_nodes.specs.declared.fault.DriverFault.{DriverFault}
 use Rattle.rz_nodes.specs.declared.fault.DriverFault.TheVariants as driver
@@ -37,6 +37,8 @@ pub record IsBehindJournal {D : Type 0} {G : Ghosts D} (disk : D) (d e : Driver 
   pub shared : e.shared ≡ record d.shared { export = e.shared.export }
   pub export : export_in e.shared.export ≡ new_export d.volume 0
   pub journal : is_journaled e.shared.export ≡ true
+  pub is_open : IsJournalOpen e.shared.export
+  pub counted : CountsFaults G.meter (faults (G.meter disk)) e.shared.export
   pub stands : Stands G.tells G.meter G.image (faults (G.meter disk)) e.shared.export []
 
 -- why the disk with this index was not formatted: where it failed, its faults rose

@@ -2,17 +2,20 @@
 use Rattle.std.proofs.Common.{refl, sym, subst}
 use Rattle.std.specs.Prelude.{ℕ, Bool, true, false, IsTrue, ◌≡◌, ◌+◌, ◌-◌, ◌^◌, ◌<◌, ◌≤◌, ◌⊎◌, ◌&&◌, nat_le, map, List, [], ◌++◌, length, Option, Some, None, slice_get}
 use Rattle.std.specs.List.{AllByRecursion}
+use Rattle.std.specs.Vec.{vec_len}
 use Rattle.std.specs.FinMap.{get}
 use Rattle.mj_angles.specs.Layout.{max_bins_of}
 use Rattle.rz_disk.specs.declared.disk.Disk.{Ghosts}
 use Rattle.rz_events.specs.Volume.{nodes_of}
 use Rattle.rz_events.specs.declared.files.NodeSpec.{NodeSpec}
+use Rattle.rz_events.specs.declared.export.Call.{Call}
 use Rattle.rz_events.specs.declared.events.Event.{Event}
 use Rattle.rz_events.specs.declared.keys.Actor.{Actor}
 use Rattle.rz_events.specs.declared.keys.Actor.TheVariants.{Client, Rebuilder, Admin}
 use Rattle.rz_locks.specs.Held.{Held}
 use Rattle.rz_player.specs.Behind.{Before}
-use Rattle.rz_metadata.specs.Stands.{export_in}
+use Rattle.rz_metadata.specs.Journals.{IsRefused}
+use Rattle.rz_metadata.specs.Stands.{CountsFaults, IsJournalOpen, export_in, refusal_of}
 use Rattle.rz_play.specs.World.{World, Agenda as APlayer, empty_agenda}
 use Rattle.rz_driver_actors.specs.declared.actor_agenda.Agenda.{Agenda}
 use Rattle.rz_driver_actors.specs.declared.shared.Shared.{Shared}
@@ -78,6 +81,7 @@ pub record IsDriver {D : Type 0} {G : Ghosts D} (d : Driver D G) : Type 0 where
   pub count : length d.agendas.items ≡ 80
   pub locks : AreLocks d.shared.locks d.agendas.items
   pub no_locks : HaveNoLocks d.agendas.items
+  pub journal : IsJournalOpen d.shared.export
 
 -- the numbers of the volume's nodes
 abbrev pub numbers_in : {D : Type 0} {G : Ghosts D} → Driver D G → List ℕ
@@ -114,13 +118,19 @@ abbrev pub HasRightDisks : {D : Type 0} {G : Ghosts D} → Driver D G → List E
 HasRightDisks {G = G} d old =
     IsTrue G.tells → length (d.shared.log.events ++ old) < 2 ^ 64 - 1 → AllByRecursion (IsServerRight (fused_image G.image) d.volume (d.shared.log.events ++ old)) d.shared.servers.items
 
+-- There is a server for each node. The disk of a journal has counted no fewer faults than at first, and more where it failed for a call.
+pub record HasCounted {D : Type 0} {G : Ghosts D} (d : Driver D G) (first : ℕ) : Type 0 where
+  pub each : vec_len d.shared.servers ≡ length (nodes_of d.volume.clusters)
+  pub journal : CountsFaults G.meter first d.shared.export
+
 -- between two turns each word of the log goes with its disk's meter, and a journal stands for the calls that the whole log tells
 abbrev pub HoldsBetweenTurns : {D : Type 0} {G : Ghosts D} → Driver D G → Before → Type 0
 HoldsBetweenTurns {G = G} d b =
     AreMetered (fused_meter G.meter) (numbers_in d) d.shared.servers.items d.shared.log.events b.counts × IsCoherentAfter d b.log × (is_known G.tells b ≡ true → StandsForJournal d b) × GoesAfter b
 
--- where a play ended they do, or the faults of each word are counted, and a journal may have one call more
-abbrev pub LeavesAtEnd : {D : Type 0} {G : Ghosts D} → Driver D G → Before → Type 0
-LeavesAtEnd {G = G} d b =
-    HoldsBetweenTurns d b
-    ⊎ (AreCounted (fused_meter G.meter) (numbers_in d) d.shared.servers.items d.shared.log.events b.counts × HasRightDisks d b.log × (is_known G.tells b ≡ true → LeavesJournal d b) × GoesAfter b)
+-- where a play ended they do, or the faults of each word are counted, and a journal may have refused this call
+abbrev pub LeavesAtEnd : {D : Type 0} {G : Ghosts D} → Driver D G → (refused : Option Call) → Before → Type 0
+LeavesAtEnd {G = G} d refused b =
+    (HoldsBetweenTurns d b × (refused ≡ None))
+    ⊎ (AreCounted (fused_meter G.meter) (numbers_in d) d.shared.servers.items d.shared.log.events b.counts × HasRightDisks d b.log × (is_known G.tells b ≡ true → LeavesJournal d refused b) × GoesAfter b
+    × IsRefused (refusal_of d.shared.export) refused)

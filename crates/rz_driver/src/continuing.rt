@@ -6,12 +6,12 @@ ghost use Rattle.rz_events.specs.Volume.{IsVolume, nodes_of};
 ghost use Rattle.rz_events.specs.declared.export.Call.{Call as ACall};
 ghost use Rattle.rz_events.specs.declared.events.Event.{Event as AnEvent};
 ghost use Rattle.rz_metadata.specs.Reopened.{AllTextsOf, IsAsItCame, MakesExport};
-ghost use Rattle.rz_metadata.specs.Stands.{disk_of, export_in, is_journaled, Stands};
+ghost use Rattle.rz_metadata.specs.Stands.{CountsFaults, IsJournalOpen, Stands, disk_of, export_in, is_journaled};
 ghost use Rattle.rz_nodes.specs.Opened.{AreDisksBack};
 ghost use Rattle.rz_restart_laws.specs.Earlier.{IsEarlier, IsRestarted};
 ghost use Rattle.rz_driver_nodes.specs.Meters.{faults_at};
 ghost use Rattle.rz_driver.specs.Continued.{journal_refusal, AreLeft, IsCauseAgain, IsJournalCause, IsOpenedAgain, IsOpenedOver, IsRefusedOver};
-ghost use Rattle.rz_driver.specs.Worlds.{left_behind, IsDriver, HoldsBetweenTurns};
+ghost use Rattle.rz_driver.specs.Worlds.{HasCounted, left_behind, IsDriver, HoldsBetweenTurns};
 
 use crate::driver::Driver;
 use crate::journaling::{split_last, with_last};
@@ -40,6 +40,7 @@ impl<D: Disk> Driver<D> {
         ensures volume { IfOk result (λ d. d.volume ≡ volume.now) }
         ensures journal { IfOk result (λ d. is_journaled d.shared.export ≡ true) }
         ensures opened { IfOk result (λ d. IsOpenedAgain volume.now disks.items d) }
+        ensures counted { IfOk result (λ d. HasCounted d (faults_at D.meter disks.items (length (nodes_of volume.now.clusters)))) }
 
         // Over disks that tell their texts a play goes on after the log of the earlier runs, in which each node that was up is
         // stopped and each node is started, whatever that log is.
@@ -73,6 +74,8 @@ fn open_journal<D: Disk>(
     ensures volume { IfOk result (λ m. (export_in m).volume ≡ volume.now) }
     ensures made { IfOk result (λ m. IsTrue D.tells → MakesExport volume.now (D.text disk) (export_in m)) }
     ensures journal { IfOk result (λ m. is_journaled m ≡ true) }
+    ensures open { IfOk result (λ m. IsJournalOpen m) }
+    ensures counted { IfOk result (λ m. CountsFaults D.meter (faults (D.meter disk)) m) }
     ensures stands { IfOk result (λ m. IsTrue D.tells → (calls : List ACall) → AllTextsOf volume.now (D.image disk) calls → Stands D.tells D.meter D.image (faults (D.meter disk)) m calls) }
     ensures came { IfOk result (λ m. IfSome (disk_of m) (IsAsItCame D.meter D.text D.image disk)) }
     ensures back { IfErr result (λ e. IsAsItCame D.meter D.text D.image disk e.0) }

@@ -7,7 +7,7 @@ ghost use Rattle.rz_metadata.specs.Stands.{is_journaled};
 ghost use Rattle.rz_play.specs.World.{new_world};
 ghost use Rattle.rz_driver_nodes.specs.Meters.{faults_at};
 ghost use Rattle.rz_driver.specs.Formatted.{AreBackWithJournal, IsBehindJournal, IsJournalRefused};
-ghost use Rattle.rz_driver.specs.Worlds.{anew, world_of, IsDriver, HoldsBetweenTurns};
+ghost use Rattle.rz_driver.specs.Worlds.{HasCounted, anew, world_of, IsDriver, HoldsBetweenTurns};
 
 use crate::driver::Driver;
 use rz_cells::FormatFault;
@@ -34,6 +34,7 @@ impl<D: Disk> Driver<D> {
         ensures world { IfOk result (λ d. world_of d ≡ new_world volume.now) }
         ensures made { IfOk result (λ d. AreFormatted D.tells D.meter D.text D.image volume.now.layout (nodes_of volume.now.clusters) disks.items d.shared.servers.items) }
         ensures held { IfOk result (λ d. HoldsBetweenTurns d (anew (faults_at D.meter disks.items))) }
+        ensures counted { IfOk result (λ d. HasCounted d (faults_at D.meter disks.items (length (nodes_of volume.now.clusters)))) }
         ensures back { IfErr result (λ r. AreBackWithJournal D.tells D.meter D.image volume.now disks.items r.0.items) }
         ensures cause { IfErr result (λ r. IsCause D.meter disks.items r.0.items r.1) }
     {

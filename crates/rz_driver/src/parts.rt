@@ -5,7 +5,7 @@ ghost use Rattle.std.specs.Vec.{vec_len, vec_capacity};
 ghost use Rattle.mj_angles.specs.Layout.{max_bins_of};
 ghost use Rattle.rz_events.specs.Volume.{IsNode, IsVolume, nodes_of};
 ghost use Rattle.rz_export_model.specs.Export.{new_export};
-ghost use Rattle.rz_metadata.specs.Stands.{export_in, is_journaled, Stands};
+ghost use Rattle.rz_metadata.specs.Stands.{IsJournalOpen, Stands, export_in, is_journaled};
 ghost use Rattle.rz_driver_actors.specs.Agendas.{IsEmptyAgenda};
 
 use rz_config::Volume;
@@ -67,6 +67,7 @@ pub(crate) fn new_parts<D: Disk>(
 pub(crate) fn new_export<D: Disk>(alloc: Global, volume: &Volume) -> Result<Metadata<D>, AllocError>
     ensures export { IfOk result (λ m. export_in m ≡ new_export volume.now 0) }
     ensures journal { IfOk result (λ m. is_journaled m ≡ false) }
+    ensures open { IfOk result (λ m. IsJournalOpen m) }
     ensures stands { IfOk result (λ m. (first : ℕ) → Stands D.tells D.meter D.image first m []) }
 {
     let volume = volume.copy(alloc)?;

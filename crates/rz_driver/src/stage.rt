@@ -10,10 +10,10 @@ use rz_player::{Halted, LoggedStage, PlayEnd, Stage};
 use rz_script::Line;
 
 impl<D: Disk> Stage for Driver<D> {
-    ghost use Rattle.rz_driver.specs.Worlds.{world_of, IsDriver, HoldsBetweenTurns, LeavesAtEnd};
+    ghost use Rattle.rz_driver.specs.Worlds.{HasCounted, world_of, IsDriver, HoldsBetweenTurns, LeavesAtEnd};
     ghost use Rattle.rz_driver.specs.Endings.{end_by};
     ghost use Rattle.rz_metadata.specs.Stands.{is_journaled, refusal_of};
-    ghost use Rattle.std.proofs.Common.{inl};
+    ghost use Rattle.std.proofs.Common.{inl, refl};
 
     ghost tells = { D.tells };
 
@@ -25,13 +25,15 @@ impl<D: Disk> Stage for Driver<D> {
 
     ghost cut_off = { λ d. end_by (refusal_of d.shared.export) };
 
+    ghost counts_on = { λ d first. HasCounted d first };
+
     ghost is_ready = { λ d. IsDriver d };
 
     ghost holds = { λ d. HoldsBetweenTurns d };
 
-    ghost leaves = { λ d. LeavesAtEnd d };
+    ghost leaves = { λ d refused. LeavesAtEnd d refused };
 
-    ghost ends = { λ d b held. inl held };
+    ghost ends = { λ d b held. inl (held, refl) };
 
     fn cut_off(&self) -> PlayEnd {
         match self.shared.export.refusal() {

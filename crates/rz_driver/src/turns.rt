@@ -1,12 +1,13 @@
 //! The turns of actors.
-ghost use Rattle.std.specs.Prelude.{◌≡◌, ◌+◌, ◌<◌, ◌≤◌, OnOk, OnErr};
-ghost use Rattle.rz_play.specs.Stops.{most_turns};
+ghost use Rattle.std.specs.Prelude.{ℕ, ◌≡◌, ◌+◌, ◌<◌, ◌≤◌, OnOk, OnErr};
+ghost use Rattle.rz_play.specs.Stops.{HasCause, JournalRefused, most_turns};
 ghost use Rattle.rz_play.specs.Free.{IsTurnOver};
 ghost use Rattle.rz_play.specs.World.{has_work};
 ghost use Rattle.rz_player.specs.Behind.{Before, behind};
-ghost use Rattle.rz_player.specs.Ends.{StaysTrue};
-ghost use Rattle.rz_metadata.specs.Stands.{is_journaled};
-ghost use Rattle.rz_driver.specs.Worlds.{place_of, world_of, IsDriver, HoldsBetweenTurns, LeavesAtEnd};
+ghost use Rattle.rz_player.specs.Ends.{StaysTrue, IsCut};
+ghost use Rattle.rz_metadata.specs.Stands.{is_journaled, refusal_of};
+ghost use Rattle.rz_driver.specs.Endings.{end_by};
+ghost use Rattle.rz_driver.specs.Worlds.{HasCounted, place_of, world_of, IsDriver, HoldsBetweenTurns, LeavesAtEnd};
 
 use crate::Halted;
 use crate::driver::Driver;
@@ -34,13 +35,16 @@ impl<D: Disk> Driver<D> {
         ensures ready { OnOk result (IsDriver self.new) }
         ensures volume { self.new.volume ≡ self.old.volume }
         ensures journal { is_journaled self.new.shared.export ≡ is_journaled self.old.shared.export }
+        ensures faults { (first : ℕ) → HasCounted self.old first → HasCounted self.new first }
         ensures counted { OnOk result (self.new.turns ≡ self.old.turns + 1) }
         ensures taken { OnOk result ((b : Before) → HoldsBetweenTurns self.old b → IsTurnOver self.old.volume by D.tells (behind b.log (world_of self.old)) (behind b.log (world_of self.new))) }
         ensures link { self.new.shared.lost + L.lost link.old ≤ self.old.shared.lost + L.lost link.new }
         ensures log { OnErr result (self.new.shared.log.events ≡ self.old.shared.log.events) }
         ensures lost { OnErr result (self.new.shared.lost ≡ self.old.shared.lost) }
         ensures held { OnOk result (StaysTrue (HoldsBetweenTurns self.old) (HoldsBetweenTurns self.new)) }
-        ensures left { OnErr result (StaysTrue (HoldsBetweenTurns self.old) (LeavesAtEnd self.new)) }
+
+        // Where the journal refused a call, it is the one of this turn.
+        ensures left { OnErr result (IsCut (end_by (refusal_of self.new.shared.export)) (HoldsBetweenTurns self.old) (LeavesAtEnd self.new) (λ c b. HasCause self.old.volume (JournalRefused c) (world_of self.old) by)) }
     {
         rz_play_laws::own_proper();
         rz_play_laws::working();

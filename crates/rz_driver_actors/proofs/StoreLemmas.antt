@@ -1,5 +1,5 @@
 -- What a turn leaves of the metadata, and of the events of the export's word.
-use Rattle.std.proofs.Common.{◌≡◌, inl, ℕ, Bool, true, false, List, ◌∷◌, Option, Some, IfSome, refl, sym, ◌∙◌, ap, subst}
+use Rattle.std.proofs.Common.{◌≡◌, ℕ, Bool, true, false, List, ◌∷◌, Option, Some, IfSome, refl, sym, ◌∙◌, ap, subst}
 use Rattle.rz_disk.specs.Meter.{Meter}
 use Rattle.rz_events.specs.declared.keys.Actor.{Actor}
 use Rattle.rz_events.specs.declared.nodes.NodeAnswer.{NodeAnswer}
@@ -11,12 +11,15 @@ use Rattle.rz_events.specs.Events.{word_of}
 use Rattle.rz_node_model.specs.NodeEvents.{node_event}
 use Rattle.rz_core.specs.History.{of_word}
 use Rattle.rz_operation.specs.Machine.{Machine, text_of}
-use Rattle.rz_operation_model.specs.Ask.{Saying, SayGot, SayGave, SayLeft, SayDone}
+use Rattle.rz_operation_model.specs.Ask.{Ask, Saying, SayGot, SayGave, SayLeft, SayDone, ask_of}
 use Rattle.rz_operation_model.specs.Turns.{said_event}
-use Rattle.rz_metadata.specs.Journals.{EndsOn}
+use Rattle.mj_angles.specs.declared.layout.Layout.{Layout}
+use Rattle.rz_driver_asks.specs.Asked.{LeavesAsked}
+use Rattle.rz_driver_asks.proofs.Keeping.{leaves-unasked}
+use Rattle.rz_driver_actors.specs.Agendas.{HasLayout, work_in}
 use Rattle.rz_driver_asks.specs.Parts.{IsSayPart}
 use Rattle.rz_metadata.specs.declared.metadata.Metadata.{Metadata}
-use Rattle.rz_metadata.specs.Stands.{export_in, is_journaled}
+use Rattle.rz_metadata.specs.Stands.{CountsFaults, IsJournalOpen, export_in, is_journaled}
 use Rattle.rz_nodes.specs.declared.formatting.Server.{Server}
 use Rattle.rz_driver_nodes.proofs.EventWords.{node-word}
 use Rattle.rz_driver_actors.specs.declared.shared.Shared.{Shared}
@@ -53,9 +56,19 @@ said-stays-export by number done old new h h' (said, asks, part) =
 
 -- ---- the metadata beside them
 
-pub same-store : {D : Type 0} (m m' : Metadata D) → m' ≡ m → IsSameStore m m'
-same-store m m' is = record { journal = ap is_journaled is; volume = ap (λ (x : Metadata _). (export_in x).volume) is }
+pub same-store : {D : Type 0} (meter : D → Meter) (m m' : Metadata D) → m' ≡ m → IsSameStore meter m m'
+same-store meter m m' is = record {
+  journal = ap is_journaled is;
+  volume = ap (λ (x : Metadata _). (export_in x).volume) is;
+  counted = λ is_open first. subst (CountsFaults meter first) (sym is);
+}
 
 -- nothing was asked of them, and they stand as they did
-pub ends-with-it : {D : Type 0} (tells : Bool) (meter : D → Meter) (image : D → List ℕ → Type 0) (m m' : Metadata D) → m' ≡ m → EndsOn tells meter image m m'
-ends-with-it tells meter image m m' is = subst (EndsOn tells meter image m) (sym is) (λ first calls stood. inl stood)
+pub leaves-with-it : {D : Type 0} (tells : Bool) (meter : D → Meter) (image : D → List ℕ → Type 0) (ask : Ask) (m m' : Metadata D) → m' ≡ m → IsJournalOpen m → LeavesAsked tells meter image ask m m'
+leaves-with-it tells meter image ask m m' is is_open = subst (LeavesAsked tells meter image ask m) (sym is) (leaves-unasked tells meter image m ask is_open)
+
+-- what the machine of an actor asks
+pub ask-there : (layout : Layout) (o : Option Machine) (m : Machine) → o ≡ Some m → HasLayout layout o → ask_of m.layout m.work ≡ ask_of layout (work_in o)
+ask-there layout o m is has =
+    let same : m.layout ≡ layout = subst (HasLayout layout) is has in
+    ap (λ (y : Layout). ask_of y m.work) same ∙ ap (λ (x : Option Machine). ask_of layout (work_in x)) (sym is)

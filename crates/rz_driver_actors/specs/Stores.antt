@@ -11,15 +11,16 @@ use Rattle.rz_core.specs.History.{of_word}
 use Rattle.rz_operation.specs.Machine.{Machine}
 use Rattle.rz_operation_model.specs.Ask.{ask_of}
 use Rattle.rz_metadata.specs.declared.metadata.Metadata.{Metadata}
-use Rattle.rz_metadata.specs.Stands.{export_in, is_journaled}
+use Rattle.rz_metadata.specs.Stands.{CountsFaults, IsJournalOpen, export_in, is_journaled}
 use Rattle.rz_metadata.specs.Journals.{KeepsCall}
 use Rattle.rz_driver_asks.specs.Asked.{call_asked}
 use Rattle.rz_driver_asks.specs.Parts.{IsNoted}
 
--- the metadata of one volume still, in memory still or behind a journal still
-pub record IsSameStore {D : Type 0} (m m' : Metadata D) : Type 0 where
+-- The metadata of one volume still, in memory still or behind a journal still. The disk of a journal that was open counts on.
+pub record IsSameStore {D : Type 0} (meter : D → Meter) (m m' : Metadata D) : Type 0 where
   pub journal : is_journaled m' ≡ is_journaled m
   pub volume : (export_in m').volume ≡ (export_in m).volume
+  pub counted : IsJournalOpen m → (first : ℕ) → CountsFaults meter first m → CountsFaults meter first m'
 
 -- What a turn makes of the journal and of the events of the export's word: the machine's call was replied to and the event of the
 -- reply noted, or nothing was asked of the export.

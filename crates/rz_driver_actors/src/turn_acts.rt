@@ -8,10 +8,11 @@ ghost use Rattle.rz_operation_model.specs.Ask.{ask_of};
 ghost use Rattle.rz_play.specs.Turns as model;
 ghost use Rattle.rz_driver_asks.specs.Locking.{lock_of};
 ghost use Rattle.rz_driver_nodes.specs.Nodes.{IsAsked};
-ghost use Rattle.rz_driver_actors.specs.Agendas.{HasLayout};
+ghost use Rattle.rz_driver_actors.specs.Agendas.{HasLayout, work_in};
 ghost use Rattle.rz_player.specs.Messages.{IsSent};
 ghost use Rattle.rz_driver_nodes.specs.Meters.{AreMetered, AreCounted, CarriesCounts};
-ghost use Rattle.rz_metadata.specs.Journals.{EndsOn};
+ghost use Rattle.rz_metadata.specs.Stands.{IsJournalOpen};
+ghost use Rattle.rz_driver_asks.specs.Asked.{LeavesAsked};
 ghost use Rattle.rz_driver_actors.specs.Stores.{TurnsExport, IsSameStore};
 ghost use Rattle.rz_driver_actors.specs.Hands.{StaysCoherent, LeavesUnchanged};
 ghost use Rattle.rz_driver_actors.specs.Acts.{IsAskKind, IsActorMessage, IsLockReleased, IsSameActor, IsAct, HasLayouts};
@@ -75,9 +76,9 @@ pub fn act<D: Disk, J: Disk, L: Link>(
     ensures count { vec_len shared.new.servers ≡ vec_len shared.old.servers }
     ensures held { OnOk result ((numbers : List ℕ) → CarriesCounts (AreMetered D.meter numbers shared.old.servers.items shared.old.log.events) (AreMetered D.meter numbers shared.new.servers.items shared.new.log.events)) }
     ensures left { OnErr result ((numbers : List ℕ) → CarriesCounts (AreMetered D.meter numbers shared.old.servers.items shared.old.log.events) (AreCounted D.meter numbers shared.new.servers.items shared.new.log.events)) }
-    ensures store { IsSameStore shared.old.export shared.new.export }
+    ensures store { IsSameStore J.meter shared.old.export shared.new.export }
     ensures kept { OnOk result (TurnsExport J.tells J.meter J.image by agenda.old.machine shared.old.export shared.new.export shared.old.log.events shared.new.log.events) }
-    ensures ended { OnErr result (EndsOn J.tells J.meter J.image shared.old.export shared.new.export) }
+    ensures ended { OnErr result (IsJournalOpen shared.old.export → LeavesAsked J.tells J.meter J.image (ask_of layout (work_in agenda.old.machine)) shared.old.export shared.new.export) }
     ensures coherent { OnOk result (IsTrue D.tells → StaysCoherent D.image by agenda.old.machine agenda.new.machine shared.old.servers.items shared.old.log.events shared.new.servers.items shared.new.log.events) }
     ensures unchanged { OnErr result (IsTrue D.tells → LeavesUnchanged D.image by agenda.old.machine shared.old.servers.items shared.old.log.events shared.new.servers.items) }
 {

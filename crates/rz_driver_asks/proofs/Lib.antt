@@ -1,2 +1,4 @@
-mod Keeping
+mod Drawn
+mod Changes
+pub mod Keeping
 mod OpenLemmas

@@ -1,7 +1,12 @@
 -- What one turn makes of the parts that it uses: the machine, the export, the locks and the log.
-use Rattle.std.specs.Prelude.{ℕ, Bool, true, false, ◌≡◌, List, ◌∷◌, Option, Some}
+use Rattle.std.specs.Prelude.{ℕ, Bool, true, false, ◌≡◌, List, ◌∷◌, Option, Some, IsSome}
 use Rattle.rz_events.specs.declared.keys.Actor.{Actor}
+use Rattle.rz_events.specs.declared.tree.TreeReply.{TreeReply}
+use Rattle.rz_events.specs.declared.tree.TreeReply.TheVariants as answers
 use Rattle.rz_events.specs.declared.export.Call.{Call}
+use Rattle.rz_events.specs.declared.export.Call.TheVariants as call
+use Rattle.rz_events.specs.declared.export.Reply.{Reply}
+use Rattle.rz_events.specs.declared.export.Reply.TheVariants as reply
 use Rattle.rz_events.specs.declared.events.Event.{Event}
 use Rattle.rz_export_model.specs.Export.{Export, export_reply, export_after}
 use Rattle.rz_export_model.specs.ExportEvents.{export_event}
@@ -32,6 +37,17 @@ pub record IsMachineTold (old new : Machine) (t : Told) : Type 0 where
 -- the event was noted
 abbrev pub IsNoted : Option Event → List Event → List Event → Type 0
 IsNoted event old new = (x : Event) × (event ≡ Some x) × (new ≡ x ∷ old)
+
+-- nothing of a reply on names is to be copied: only names and a target are
+abbrev pub IsUncopied : TreeReply → Type 0
+IsUncopied (answers.Names names) = ⊥
+IsUncopied (answers.Target target) = ⊥
+IsUncopied answer = Unit {0}
+
+-- a reply has an event, and no memory is wanted for it
+abbrev pub IsNotable : Actor → Call → Reply → Type 0
+IsNotable by (call.Tree c) r = (answer : TreeReply) × (r ≡ reply.Tree answer) × IsUncopied answer
+IsNotable by c r = IsSome (export_event by c r)
 
 -- The export answered this call of a machine.
 pub record IsReplied (by : Actor) (c : Call) (old new : Machine) (s s' : Export) (log log' : List Event) : Type 0 where

@@ -3,11 +3,11 @@ ghost use Rattle.std.specs.Prelude.{◌≡◌, ◌<◌, ◌≤◌, ℕ, None, On
 ghost use Rattle.std.specs.FinMap as map;
 ghost use Rattle.rz_events.specs.declared.keys.Actor.TheVariants as actor;
 ghost use Rattle.rz_events.specs.declared.tree.TreeCall.TheVariants as tree;
-ghost use Rattle.rz_metadata.specs.Stands.{export_in, is_journaled};
+ghost use Rattle.rz_metadata.specs.Stands.{CountsFaults, IsJournalOpen, export_in, is_journaled};
 ghost use Rattle.rz_operation.specs.Meaning.{path_in};
 ghost use Rattle.rz_play.specs.Turns.{lock_on};
-ghost use Rattle.rz_metadata.specs.Journals.{EndsOn};
-ghost use Rattle.rz_driver_asks.specs.Asked.{KeepsAsked};
+ghost use Rattle.rz_operation_model.specs.Ask.{ask_of};
+ghost use Rattle.rz_driver_asks.specs.Asked.{KeepsAsked, LeavesAsked};
 ghost use Rattle.rz_driver_asks.specs.Locking.{lock_of, Grants, lock_if, IsOpenPart};
 
 use crate::replies::note_names;
@@ -34,9 +34,10 @@ pub fn open<D: Disk>(
     ensures ok { OnOk result (IsOpenPart by machine.old machine.new (export_in export.old) (export_in export.new) locks.old locks.new held.old held.new log.old.events log.new.events) }
     ensures err { OnErr result (log.new.events ≡ log.old.events) }
     ensures kept { OnOk result (KeepsAsked D.tells D.meter D.image machine.old export.old export.new) }
-    ensures left { OnErr result (EndsOn D.tells D.meter D.image export.old export.new) }
+    ensures left { OnErr result (IsJournalOpen export.old → LeavesAsked D.tells D.meter D.image (ask_of machine.old.layout machine.old.work) export.old export.new) }
 
     // On every exit.
+    ensures counted { IsJournalOpen export.old → (first : ℕ) → CountsFaults D.meter first export.old → CountsFaults D.meter first export.new }
     ensures journal { is_journaled export.new ≡ is_journaled export.old }
     ensures volume { (export_in export.new).volume ≡ (export_in export.old).volume }
 {

@@ -1,13 +1,15 @@
 //! Calls of the export.
-ghost use Rattle.std.specs.Prelude.{◌≡◌, ◌+◌, ◌<◌, ◌≤◌, Some, IfOk, OnOk, OnErr};
+ghost use Rattle.std.specs.Prelude.{◌≡◌, ◌+◌, ◌<◌, ◌≤◌, ℕ, None, Some, IfOk, OnOk, OnErr};
 ghost use Rattle.std.specs.List.{All};
 ghost use Rattle.rz_events.specs.declared.export.Reply.TheVariants as model;
 ghost use Rattle.rz_export_model.specs.ExportEvents.{export_event};
-ghost use Rattle.rz_metadata.specs.Stands.{export_in, is_journaled};
+ghost use Rattle.rz_metadata.specs.Stands.{CountsFaults, IsJournalOpen, export_in, is_journaled};
 ghost use Rattle.rz_events.specs.Borrowed.{call_of};
-ghost use Rattle.rz_metadata.specs.Journals.{WritesBytes, EndsOn};
-ghost use Rattle.rz_driver_asks.specs.Asked.{KeepsAsked};
-ghost use Rattle.rz_driver_asks.specs.Parts.{AreCallTexts, IsNoted, IsExportPart};
+ghost use Rattle.rz_events.specs.declared.tree.TreeReply.{TreeReply as ATreeReply};
+ghost use Rattle.rz_metadata.specs.Journals.{WritesBytes};
+ghost use Rattle.rz_operation_model.specs.Ask.{ask_of};
+ghost use Rattle.rz_driver_asks.specs.Asked.{KeepsAsked, LeavesAsked};
+ghost use Rattle.rz_driver_asks.specs.Parts.{AreCallTexts, IsNotable, IsNoted, IsExportPart, IsUncopied};
 
 use rz_disk::Disk;
 use rz_events::{
@@ -40,9 +42,13 @@ pub fn ask_export<D: Disk>(
     ensures ok { OnOk result (IsExportPart by machine.old machine.new (export_in export.old) (export_in export.new) log.old.events log.new.events) }
     ensures err { OnErr result (log.new.events ≡ log.old.events) }
     ensures kept { OnOk result (KeepsAsked D.tells D.meter D.image machine.old export.old export.new) }
-    ensures left { OnErr result (EndsOn D.tells D.meter D.image export.old export.new) }
+
+    // Otherwise the journal refused this very call, or stands for those from before: no memory is wanted, and nothing
+    // tested, once a call has changed the export.
+    ensures left { OnErr result (IsJournalOpen export.old → LeavesAsked D.tells D.meter D.image (ask_of machine.old.layout machine.old.work) export.old export.new) }
 
     // On every exit.
+    ensures counted { IsJournalOpen export.old → (first : ℕ) → CountsFaults D.meter first export.old → CountsFaults D.meter first export.new }
     ensures journal { is_journaled export.new ≡ is_journaled export.old }
     ensures volume { (export_in export.new).volume ≡ (export_in export.old).volume }
 {
@@ -115,6 +121,7 @@ fn note_reply(
     requires room { 0 < log.old.room }
     ensures ok { OnOk result (IsNoted (export_event by (call_of ask.entry) reply.now) log.old.events log.new.events) }
     ensures err { OnErr result (log.new.events ≡ log.old.events) }
+    ensures unnoted { OnErr result (¬ IsNotable by (call_of ask.entry) reply.now) }
 {
     match words {
         CallTexts::Call(call) => note_names(alloc, by, call, reply, log),
@@ -128,6 +135,7 @@ fn note(event: Option<Event>, log: &mut Log) -> Result<(), Halted>
     requires room { 0 < log.old.room }
     ensures ok { OnOk result (IsNoted event log.old.events log.new.events) }
     ensures err { OnErr result (log.new.events ≡ log.old.events) }
+    ensures none { OnErr result (event ≡ None) }
     ensures room { log.old.room ≤ log.new.room + 1 }
 {
     match event {
@@ -139,7 +147,7 @@ fn note(event: Option<Event>, log: &mut Log) -> Result<(), Halted>
     }
 }
 
-/// Notes a call on names, with a copy of its reply.
+/// Notes a call on names, with a copy of its reply. Only names and a target want memory for it.
 pub(crate) fn note_names(
     alloc: Global,
     by: Actor,
@@ -150,6 +158,7 @@ pub(crate) fn note_names(
     requires room { 0 < log.old.room }
     ensures ok { OnOk result (IsNoted (export_event by (Call.Tree call) reply.now) log.old.events log.new.events) }
     ensures err { OnErr result (log.new.events ≡ log.old.events) }
+    ensures wanted { OnErr result ((answer : ATreeReply) → reply.now ≡ model.Tree answer → ¬ IsUncopied answer) }
 {
     match reply_on_names(alloc, reply) {
         Ok(reply) => {
@@ -165,11 +174,33 @@ pub(crate) fn note_names(
 
 /// A copy of the reply to a call on names.
 fn reply_on_names(alloc: Global, reply: &Reply) -> Result<TreeReply, Halted>
-    ensures { IfOk result (λ r. reply.now ≡ model.Tree r) }
+    ensures copied { IfOk result (λ r. reply.now ≡ model.Tree r) }
+    ensures wanted { OnErr result ((answer : ATreeReply) → reply.now ≡ model.Tree answer → ¬ IsUncopied answer) }
 {
     match reply {
-        Reply::Tree(answer) => Ok(answer.copy(alloc)?),
+        Reply::Tree(answer) => Ok(answer_copy(alloc, answer)?),
         _ => Err(Halted),
+    }
+}
+
+/// An equal answer. Only names and a target want memory, which no call tells that changed the export.
+fn answer_copy(alloc: Global, answer: &TreeReply) -> Result<TreeReply, AllocError>
+    ensures equal { IfOk result (λ r. r ≡ answer.now) }
+    ensures wanted { OnErr result (¬ IsUncopied answer.now) }
+{
+    match answer {
+        TreeReply::Names(_) | TreeReply::Target(_) => answer.copy(alloc),
+        TreeReply::Made { fid } => Ok(TreeReply::Made { fid: *fid }),
+        TreeReply::MadeFile(info) => Ok(TreeReply::MadeFile(*info)),
+        TreeReply::Found { fid, kind } => Ok(TreeReply::Found {
+            fid: *fid,
+            kind: *kind,
+        }),
+        TreeReply::Attr(attr) => Ok(TreeReply::Attr(*attr)),
+        TreeReply::Plain => Ok(TreeReply::Plain),
+        TreeReply::Gone(file) => Ok(TreeReply::Gone(*file)),
+        TreeReply::File(info) => Ok(TreeReply::File(*info)),
+        TreeReply::Refused(fault) => Ok(TreeReply::Refused(*fault)),
     }
 }
 

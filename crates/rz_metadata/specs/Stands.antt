@@ -45,17 +45,28 @@ pub record IsJournalKept {D : Type 0} (tells : Bool) (meter : D → Meter) (imag
 abbrev pub OverfillsHalf : Export → Call → Type 0
 OverfillsHalf s c = (e : Entry) × (entry_of c ≡ Some e) × (8_388_576 < needed s (row_length e))
 
--- It did not keep one more call. Each image stands for the calls from before, but where the disk failed also for these and that one;
--- then its count of faults rose. Where it was full, it has the export
+-- There was no reply to one more call. Where the journal did not refuse it, it kept the calls from before. Otherwise each image stands
+-- for those, but where the disk failed also for those and that one; then its count of faults rose. Where it was full, it has the export
 -- from before, and no half has room for that call.
 
-abbrev pub IsLeftBy : Option JournalRefusal → Bool → (List ℕ → Type 0) → (first now : ℕ) → Export → List Call → Call → Type 0
-IsLeftBy None tells image first now s calls c = IsTrue tells → AllStandFor image s calls
-IsLeftBy (Some Full) tells image first now s calls c = IsExportAfter s calls × OverfillsHalf s c × (IsTrue tells → AllStandFor image s calls)
-IsLeftBy (Some Failed) tells image first now s calls c = Rises first now × (IsTrue tells → AllStandForEither image s calls c)
+abbrev pub IsLeftBy : Option JournalRefusal → (kept : Type 0) → Bool → (List ℕ → Type 0) → (first now : ℕ) → Export → List Call → Call → Type 0
+IsLeftBy None kept tells image first now s calls c = kept
+IsLeftBy (Some Full) kept tells image first now s calls c = IsExportAfter s calls × OverfillsHalf s c × (IsTrue tells → AllStandFor image s calls)
+IsLeftBy (Some Failed) kept tells image first now s calls c = Rises first now × (IsTrue tells → AllStandForEither image s calls c)
 
 abbrev pub IsCallLeft : {D : Type 0} → Bool → (D → Meter) → (D → List ℕ → Type 0) → ℕ → Behind D → List Call → Call → Type 0
-IsCallLeft tells meter image first j calls c = IsLeftBy j.refusal tells (image j.journal.disk) first (faults (meter j.journal.disk)) j.journal.export calls c
+IsCallLeft tells meter image first j calls c =
+    IsLeftBy j.refusal (IsJournalKept tells meter image first j calls) tells (image j.journal.disk) first (faults (meter j.journal.disk)) j.journal.export calls c
+
+-- it refused no call, and no device call of its disk failed
+pub record IsUnrefused {D : Type 0} (j : Behind D) : Type 0 where
+  pub unrefused : j.refusal ≡ None
+  pub is_open : j.journal.closed ≡ false
+
+-- Its disk, which had counted so many faults at first, has counted no fewer, and more where it failed for a call.
+pub record CountsOn {D : Type 0} (meter : D → Meter) (first : ℕ) (j : Behind D) : Type 0 where
+  pub lasts : first ≤ faults (meter j.journal.disk)
+  pub risen : j.refusal ≡ Some Failed → Rises first (faults (meter j.journal.disk))
 
 -- Of all metadata: in memory they stand on no disk.
 
@@ -66,6 +77,14 @@ Stands tells meter image first (Journaled j) calls = IsJournalKept tells meter i
 abbrev pub StandsAtEnd : {D : Type 0} → Bool → (D → Meter) → (D → List ℕ → Type 0) → ℕ → Metadata D → List Call → Call → Type 0
 StandsAtEnd tells meter image first (InMemory s) calls c = Unit {0}
 StandsAtEnd tells meter image first (Journaled j) calls c = IsCallLeft tells meter image first j calls c
+
+abbrev pub IsJournalOpen : {D : Type 0} → Metadata D → Type 0
+IsJournalOpen (InMemory s) = Unit {0}
+IsJournalOpen (Journaled j) = IsUnrefused j
+
+abbrev pub CountsFaults : {D : Type 0} → (D → Meter) → ℕ → Metadata D → Type 0
+CountsFaults meter first (InMemory s) = Unit {0}
+CountsFaults meter first (Journaled j) = CountsOn meter first j
 
 -- the reply says that memory is wanting
 abbrev pub wants_memory : Reply → Bool

@@ -4,7 +4,8 @@ ghost use Rattle.rz_events.specs.declared.export.Call.{Call as ACall};
 ghost use Rattle.rz_export_model.specs.Export.{export_reply, export_after, is_proper};
 ghost use Rattle.rz_journal.specs.Seen.{calls_after};
 ghost use Rattle.rz_events.specs.Borrowed.{call_of};
-ghost use Rattle.rz_metadata.specs.Stands.{IsJournalKept, IsCallLeft};
+ghost use Rattle.rz_metadata.specs.Journals.{MayRefuse};
+ghost use Rattle.rz_metadata.specs.Stands.{CountsOn, IsJournalKept, IsCallLeft, IsUnrefused};
 
 use crate::memory::{NoReply, wants_memory};
 use rz_disk::Disk;
@@ -35,6 +36,9 @@ impl<D: Disk> Journaled<D> {
         ensures kept { IfOk result (λ r. (first : ℕ) (calls : List ACall) → IsJournalKept D.tells D.meter D.image first self.old calls → IsJournalKept D.tells D.meter D.image first self.new (calls_after r (call_of ask.entry) calls)) }
         ensures left { OnErr result ((first : ℕ) (calls : List ACall) → IsJournalKept D.tells D.meter D.image first self.old calls → IsCallLeft D.tells D.meter D.image first self.new calls (call_of ask.entry)) }
         ensures volume { self.new.journal.export.volume ≡ self.old.journal.export.volume }
+        ensures open { OnOk result (IsUnrefused self.old → IsUnrefused self.new) }
+        ensures refused { OnErr result (IsUnrefused self.old → MayRefuse self.new.refusal (call_of ask.entry) (IsUnrefused self.new)) }
+        ensures counted { IsUnrefused self.old → (first : ℕ) → CountsOn D.meter first self.old → CountsOn D.meter first self.new }
     {
         if self.refusal.is_some() || !self.journal.export().takes_ref(ask) {
             return Err(NoReply);
@@ -50,6 +54,9 @@ impl<D: Disk> Journaled<D> {
         ensures kept { IfOk result (λ r. (first : ℕ) (calls : List ACall) → IsJournalKept D.tells D.meter D.image first self.old calls → IsJournalKept D.tells D.meter D.image first self.new (calls_after r (call_of ask.entry) calls)) }
         ensures left { OnErr result ((first : ℕ) (calls : List ACall) → IsJournalKept D.tells D.meter D.image first self.old calls → IsCallLeft D.tells D.meter D.image first self.new calls (call_of ask.entry)) }
         ensures volume { self.new.journal.export.volume ≡ self.old.journal.export.volume }
+        ensures open { OnOk result (IsUnrefused self.old → IsUnrefused self.new) }
+        ensures refused { OnErr result (IsUnrefused self.old → MayRefuse self.new.refusal (call_of ask.entry) (IsUnrefused self.new)) }
+        ensures counted { IsUnrefused self.old → (first : ℕ) → CountsOn D.meter first self.old → CountsOn D.meter first self.new }
     {
         match self.journal.answer_ref(ask) {
             JournalReply::Reply(reply) => {

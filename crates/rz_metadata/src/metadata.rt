@@ -12,7 +12,8 @@ ghost use Rattle.rz_journal.specs.Stands.{IsShut};
 ghost use Rattle.rz_events.specs.Borrowed.{call_of};
 ghost use Rattle.rz_metadata.specs.Enrolled.{loss_of};
 ghost use Rattle.rz_metadata.specs.Reopened.{AllTextsOf, IsAsItCame, MakesExport};
-ghost use Rattle.rz_metadata.specs.Stands.{export_in, disk_of, refusal_of, is_journaled, Stands, StandsAtEnd};
+ghost use Rattle.rz_metadata.specs.Journals.{MayRefuse};
+ghost use Rattle.rz_metadata.specs.Stands.{export_in, disk_of, is_journaled, CountsFaults, IsJournalOpen, Stands, StandsAtEnd, refusal_of};
 
 use crate::journaled::{JournalRefusal, Journaled};
 use crate::losses::losses_of;
@@ -37,7 +38,9 @@ impl<D: Disk> Metadata<D> {
     pub fn in_memory(alloc: Global, volume: Volume) -> Result<Metadata<D>, AllocError>
         ensures export { IfOk result (λ m. export_in m ≡ new_export volume 0) }
         ensures stands { IfOk result (λ m. (first : ℕ) → Stands D.tells D.meter D.image first m []) }
+        ensures counted { IfOk result (λ m. (first : ℕ) → CountsFaults D.meter first m) }
         ensures journal { IfOk result (λ m. is_journaled m ≡ false) }
+        ensures open { IfOk result (λ m. IsJournalOpen m) }
     {
         Ok(Metadata::InMemory(Export::new(alloc, volume, 0)?))
     }
@@ -46,7 +49,9 @@ impl<D: Disk> Metadata<D> {
     pub fn format(alloc: Global, volume: Volume, disk: D) -> Result<Metadata<D>, (D, FormatFault)>
         ensures export { IfOk result (λ m. export_in m ≡ new_export volume 0) }
         ensures stands { IfOk result (λ m. Stands D.tells D.meter D.image (faults (D.meter disk)) m []) }
+        ensures counted { IfOk result (λ m. CountsFaults D.meter (faults (D.meter disk)) m) }
         ensures journal { IfOk result (λ m. is_journaled m ≡ true) }
+        ensures open { IfOk result (λ m. IsJournalOpen m) }
 
         // Otherwise each image is one from before, or its header is shut, or it stands for no calls.
         ensures crash { IfErr result (λ e. IsTrue D.tells → (c : List ℕ) → D.image e.0 c → D.image disk c ⊎ IsShut c ⊎ IsTextOf volume c []) }
@@ -68,7 +73,8 @@ impl<D: Disk> Metadata<D> {
         ensures volume { IfOk result (λ m. (export_in m).volume ≡ volume) }
         ensures made { IfOk result (λ m. IsTrue D.tells → MakesExport volume (D.text disk) (export_in m)) }
         ensures journal { IfOk result (λ m. is_journaled m ≡ true) }
-        ensures refusal { IfOk result (λ m. refusal_of m ≡ None) }
+        ensures open { IfOk result (λ m. IsJournalOpen m) }
+        ensures counted { IfOk result (λ m. CountsFaults D.meter (faults (D.meter disk)) m) }
 
         // It stands for the calls for which each image of the disk stood as it came, and has the export after them.
         ensures calls { IfOk result (λ m. IsTrue D.tells → (calls : List ACall) → IsTextOf volume (D.text disk) calls → IsExportAfter (export_in m) calls) }
@@ -101,7 +107,12 @@ impl<D: Disk> Metadata<D> {
         ensures kept { IfOk result (λ r. (first : ℕ) (calls : List ACall) → Stands D.tells D.meter D.image first self.old calls → Stands D.tells D.meter D.image first self.new (calls_after r (call_of ask.entry) calls)) }
         ensures left { OnErr result ((first : ℕ) (calls : List ACall) → Stands D.tells D.meter D.image first self.old calls → StandsAtEnd D.tells D.meter D.image first self.new calls (call_of ask.entry)) }
 
+        // A journal that is open stays so after a reply. Without one it may refuse the call, where that has an entry.
+        ensures open { OnOk result (IsJournalOpen self.old → IsJournalOpen self.new) }
+        ensures refused { OnErr result (IsJournalOpen self.old → MayRefuse (refusal_of self.new) (call_of ask.entry) (IsJournalOpen self.new)) }
+
         // On every exit.
+        ensures counted { IsJournalOpen self.old → (first : ℕ) → CountsFaults D.meter first self.old → CountsFaults D.meter first self.new }
         ensures journal { is_journaled self.new ≡ is_journaled self.old }
         ensures volume { (export_in self.new).volume ≡ (export_in self.old).volume }
     {

@@ -4,14 +4,15 @@ use Rattle.std.specs.List.{AllByRecursion}
 use Rattle.std.proofs.lemmas.List.{take_more}
 use Rattle.rz_events.specs.Volume.{Volume}
 use Rattle.rz_events.specs.declared.keys.Actor.{Actor}
+use Rattle.rz_events.specs.declared.export.Call.{Call}
 use Rattle.rz_script.specs.Lines.{IsActor}
 use Rattle.rz_play.specs.World.{World, has_work}
 use Rattle.rz_play.specs.Free.{IsTurnOver}
 use Rattle.rz_play.specs.Lines.{IsRoundOver, IsTurnIf}
-use Rattle.rz_play.specs.Stops.{most_turns}
+use Rattle.rz_play.specs.Stops.{JournalRefused, most_turns}
 use Rattle.rz_player.specs.declared.turns.CutCause.{CutCause}
 use Rattle.rz_player.specs.declared.turns.CutCause.TheVariants as cut
-use Rattle.rz_player.specs.Ends.{IsTurnTaken, IsRoundPlayed, HadWork}
+use Rattle.rz_player.specs.Ends.{HadWork, IsLogOf, IsRoundPlayed, IsTurnRefused, IsTurnTaken, StopsAmong}
 use Rattle.rz_player.proofs.Counts.{turn-counts}
 use Rattle.rz_player.proofs.Sequences.{round-more}
 
@@ -91,3 +92,8 @@ cut-at v tells xs i d w any mid next cut.TooManyTurns lt h busy turn = (
 )
 cut-at v tells xs i d w any mid next cut.NoMemory lt h busy turn =
     (mid, (take i xs, get_or xs i d ∷ drop (i + 1) xs, split-at xs i d lt, h.played), h.few, turn)
+
+-- the journal refused the call of that turn
+pub refused-at : (v : Volume) (tells : Bool) (xs : List Actor) (i : ℕ) (d : Actor) (w : World) (any : Bool) (mid next : World) (c : Call) → i < length xs → IsUpTo v (take i xs) tells w any mid → has_work (mid.agendas (get_or xs i d)) ≡ true
+    → IsTurnRefused v (get_or xs i d) c mid next → IsLogOf (StopsAmong v (JournalRefused c) xs tells w) next
+refused-at v tells xs i d w any mid next c lt h busy turn = (mid, (take i xs, get_or xs i d, drop (i + 1) xs, split-at xs i d lt, h.played, busy, turn.0), h.few, turn.1)

@@ -4,6 +4,7 @@ mod Cuts
 mod Amongs
 mod Scripts
 mod Stops
+mod Refused
 mod Behind
 pub mod Anew
 pub mod Fates

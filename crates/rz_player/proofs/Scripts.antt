@@ -2,18 +2,19 @@
 use Rattle.std.proofs.Common.{ℕ, zero, suc, Bool, true, IsTrue, ◌≡◌, ◌+◌, ◌<◌, ◌≤◌, List, [], ◌∷◌, ◌++◌, Err, length, get_or, take, drop, subst, sym, refl, arith, inl, inr, add-one, drop-cons, take-append-drop}
 use Rattle.std.proofs.lemmas.List.{take_more}
 use Rattle.rz_events.specs.Volume.{Volume}
+use Rattle.rz_events.specs.declared.export.Call.{Call}
 use Rattle.rz_events.specs.declared.events.Event.{Event}
 use Rattle.rz_script.specs.declared.line.Line.{Line}
 use Rattle.rz_script.specs.declared.line.Line.TheVariants as line
 use Rattle.rz_script.specs.Lines.{IsLine, AreLines}
 use Rattle.rz_play.specs.World.{World}
 use Rattle.rz_play.specs.Lines.{PlaysLineOver, TakesNoTurn}
-use Rattle.rz_play.specs.Stops.{StopCause, TurnsSpent, StopsLineOver, BeginsLineOver, most_turns}
+use Rattle.rz_play.specs.Stops.{StopCause, TurnsSpent, JournalRefused, StopsLineOver, BeginsLineOver, most_turns}
 use Rattle.rz_play.specs.Played.{PlaysLinesOver, StopsLinesOver, BeginsLinesOver}
 use Rattle.rz_player.specs.declared.turns.CutCause.TheVariants as cut
 use Rattle.rz_player.specs.declared.lines.PlayEnd.{PlayEnd}
 use Rattle.rz_player.specs.declared.lines.PlayEnd.TheVariants as end
-use Rattle.rz_player.specs.Ends.{ComesToWorld, CutsOff, IsEnded, IsEndedOver, IsLinePlayed, IsLogOf, TellsOf}
+use Rattle.rz_player.specs.Ends.{IsEnded, IsEndedOver, IsLinePlayed, IsLogOf, IsStoppedOver, TellsOf}
 
 pub line-at : (v : Volume) (xs : List Line) (i : ℕ) (d : Line) → AreLines v xs → i < length xs → IsLine v (get_or xs i d)
 line-at v [] i d all lt = absurd (omega arith)
@@ -49,22 +50,24 @@ script-stopped v tells xs i d w mid next lost lt h stops few = record {
   log_is = refl;
 }
 
-begun-so : (tells : Bool) (v : Volume) (w last : World) (xs : List Line) (journaled : Bool) (e : PlayEnd) → CutsOff journaled e → BeginsLinesOver v xs tells w last × (last.turns ≤ most_turns) → ComesToWorld v xs tells e w last
-begun-so tells v w last xs journaled end.Ended cuts h = absurd cuts
-begun-so tells v w last xs journaled end.TooManyTurns cuts h = absurd cuts
-begun-so tells v w last xs journaled end.NoMemory cuts h = h
-begun-so tells v w last xs journaled end.Journal cuts h = h
-begun-so tells v w last xs journaled end.JournalFull cuts h = h
-
 -- it was cut off
-pub script-cut : (v : Volume) (tells : Bool) (xs : List Line) (i : ℕ) (d : Line) (w mid next : World) (journaled : Bool) (e : PlayEnd) (lost : ℕ) → CutsOff journaled e → i < length xs → PlaysLinesOver v (take i xs) tells w mid
-    → IsLinePlayed v (get_or xs i d) tells mid (Err cut.NoMemory) next → next.lost ≤ lost → IsEndedOver tells v w xs e lost next.log
-script-cut v tells xs i d w mid next journaled e lost cuts lt h begins few = record {
+pub script-cut : (v : Volume) (tells : Bool) (xs : List Line) (i : ℕ) (d : Line) (w mid next : World) (lost : ℕ) → i < length xs → PlaysLinesOver v (take i xs) tells w mid
+    → IsLinePlayed v (get_or xs i d) tells mid (Err cut.NoMemory) next → next.lost ≤ lost → IsEndedOver tells v w xs end.NoMemory lost next.log
+script-cut v tells xs i d w mid next lost lt h begins few = record {
   last = begins.0;
-  played = begun-so tells v w begins.0 xs journaled e cuts
-      (subst (λ (ys : List Line). BeginsLinesOver v ys tells w begins.0) (sym (split-at xs i d lt)) (begins-after v tells (take i xs) (get_or xs i d) (drop (i + 1) xs) w mid begins.0 h begins.1), begins.2);
+  played = (subst (λ (ys : List Line). BeginsLinesOver v ys tells w begins.0) (sym (split-at xs i d lt)) (begins-after v tells (take i xs) (get_or xs i d) (drop (i + 1) xs) w mid begins.0 h begins.1), begins.2);
   losses = (let same = begins.3.1 in omega (arith, few, same));
   log_is = sym begins.3.0;
+}
+
+-- before the turn of a call that the journal refused
+pub script-refused : (v : Volume) (tells : Bool) (xs : List Line) (i : ℕ) (d : Line) (w mid next : World) (c : Call) (lost : ℕ) → i < length xs → PlaysLinesOver v (take i xs) tells w mid
+    → IsLogOf (StopsLineOver v (JournalRefused c) (get_or xs i d) tells mid) next → next.lost ≤ lost → IsStoppedOver tells v (JournalRefused c) w xs lost next.log
+script-refused v tells xs i d w mid next c lost lt h stops few = record {
+  last = stops.0;
+  played = subst (λ (ys : List Line). StopsLinesOver v (JournalRefused c) ys tells w stops.0) (sym (split-at xs i d lt)) (stops-after v (JournalRefused c) tells (take i xs) (get_or xs i d) (drop (i + 1) xs) w mid stops.0 h stops.1);
+  losses = (let same = stops.3.1 in omega (arith, few, same));
+  log_is = sym stops.3.0;
 }
 
 -- a line without turns that was not carried out: nothing of it was
@@ -85,8 +88,8 @@ ended-true : (v : Volume) (first : World) (lines : List Line) (e : PlayEnd) (los
 ended-true v first lines end.Ended lost h over = (record { last = over.last; played = over.played.0; few = over.played.1; log_is = over.log_is }, over.losses)
 ended-true v first lines end.TooManyTurns lost h over = (record { last = over.last; played = over.played; log_is = over.log_is }, over.losses)
 ended-true v first lines end.NoMemory lost h over = (record { last = over.last; played = over.played.0; few = over.played.1; log_is = over.log_is }, over.losses)
-ended-true v first lines end.Journal lost h over = (record { last = over.last; played = over.played.0; few = over.played.1; log_is = over.log_is }, over.losses)
-ended-true v first lines end.JournalFull lost h over = (record { last = over.last; played = over.played.0; few = over.played.1; log_is = over.log_is }, over.losses)
+ended-true v first lines end.Journal lost h over = (over.played.0, record { last = over.last; played = over.played.1; log_is = over.log_is }, over.losses)
+ended-true v first lines end.JournalFull lost h over = (over.played.0, record { last = over.last; played = over.played.1; log_is = over.log_is }, over.losses)
 
 pub told : (tells : Bool) (v : Volume) (first : World) (lines : List Line) (e : PlayEnd) (lost : ℕ) (h : List Event) → IsTrue tells → IsEndedOver tells v first lines e lost h → IsEnded v first lines e lost h
 told tells v first lines e lost h is over = ended-true v first lines e lost h (subst (λ (t : Bool). IsEndedOver t v first lines e lost h) is over)

@@ -1,10 +1,10 @@
 //! The lines of a script, one after another.
-ghost use Rattle.std.specs.Prelude.{◌≡◌, ◌≤◌, ◌+◌, ◌-◌, ◌++◌, IsTrue, OnOk, OnErr};
+ghost use Rattle.std.specs.Prelude.{ℕ, ◌≡◌, ◌≤◌, ◌+◌, ◌-◌, ◌++◌, IsTrue, OnOk, OnErr};
 ghost use Rattle.rz_script.specs.Lines.{IsLine, AreLines};
-ghost use Rattle.rz_play.specs.Stops.{most_turns};
+ghost use Rattle.rz_play.specs.Stops.{JournalRefused, StopsLineOver, most_turns};
 ghost use Rattle.rz_player.specs.Behind.{Before, behind};
 ghost use Rattle.rz_play.specs.Played.{PlaysLinesOver};
-ghost use Rattle.rz_player.specs.Ends.{StaysTrue, EndsBy, IsLinePlayed, IsEnded, IsEndedOver, OnStop};
+ghost use Rattle.rz_player.specs.Ends.{StaysTrue, EndsBy, IsCut, IsEnded, IsEndedOver, IsLinePlayed, IsLogOf, IsStoppedOver, OnCut, OnStop};
 
 use crate::rounds::{play_rounds, play_to_rest};
 use crate::stage::Stage;
@@ -36,8 +36,9 @@ fn play_line<S: Stage, L: Link>(stage: &mut S, line: &Line, link: &mut L) -> Res
     ensures ready { OnOk result (S.is_ready stage.new) }
     ensures few { OnOk result ((S.world stage.new).turns ≤ most_turns) }
     ensures lost { (S.world stage.new).lost + L.lost link.old ≤ (S.world stage.old).lost + L.lost link.new }
+    ensures faults { (first : ℕ) → S.counts_on stage.old first → S.counts_on stage.new first }
     ensures held { OnOk result (StaysTrue (S.holds stage.old) (S.holds stage.new)) }
-    ensures left { OnErr result (StaysTrue (S.holds stage.old) (S.leaves stage.new)) }
+    ensures cut { OnCut result (IsCut (S.cut_off stage.new) (S.holds stage.old) (S.leaves stage.new) (λ c b. IsLogOf (StopsLineOver (S.volume stage.old) (JournalRefused c) line.now S.tells (behind b.log (S.world stage.old))) (behind b.log (S.world stage.new)))) }
     ensures stopped { OnStop result (S.is_ready stage.new × StaysTrue (S.holds stage.old) (S.holds stage.new)) }
     ensures played { (b : Before) → S.holds stage.old b → IsLinePlayed (S.volume stage.old) line.now S.tells (behind b.log (S.world stage.old)) result (behind b.log (S.world stage.new)) }
 {
@@ -61,8 +62,11 @@ pub fn play<S: Stage, L: Link>(stage: &mut S, lines: &[Line], link: &mut L) -> P
     requires lines { AreLines (S.volume stage.old) lines.now }
     requires few { (S.world stage.old).turns ≤ most_turns }
     ensures volume { S.volume stage.new ≡ S.volume stage.old }
-    ensures left { StaysTrue (S.holds stage.old) (S.leaves stage.new) }
+
+    // What is left where a play ended. Where the journal refused a call, it is that of the turn before which the play stopped.
+    ensures left { IsCut result (S.holds stage.old) (S.leaves stage.new) (λ c b. IsStoppedOver S.tells (S.volume stage.old) (JournalRefused c) (behind b.log (S.world stage.old)) lines.now ((S.world stage.old).lost + (L.lost link.new - L.lost link.old)) ((S.world stage.new).log ++ b.log)) }
     ensures lost { (S.world stage.new).lost + L.lost link.old ≤ (S.world stage.old).lost + L.lost link.new }
+    ensures faults { (first : ℕ) → S.counts_on stage.old first → S.counts_on stage.new first }
     ensures played { (b : Before) → S.holds stage.old b → IsTrue S.tells → IsEnded (S.volume stage.old) (behind b.log (S.world stage.old)) lines.now result ((S.world stage.old).lost + (L.lost link.new - L.lost link.old)) ((S.world stage.new).log ++ b.log) }
     ensures journal { S.journaled stage.new ≡ S.journaled stage.old }
 

@@ -1,12 +1,12 @@
 //! Rounds, in which each actor that has work takes a turn.
-ghost use Rattle.std.specs.Prelude.{◌≡◌, ◌≤◌, ◌+◌, OnOk, OnErr};
+ghost use Rattle.std.specs.Prelude.{ℕ, ◌≡◌, ◌≤◌, ◌+◌, OnOk, OnErr};
 ghost use Rattle.std.specs.List.{AllByRecursion};
 ghost use Rattle.rz_script.specs.Lines.{IsActor};
 ghost use Rattle.rz_script.specs.declared.line.Line.TheVariants as line;
 ghost use Rattle.rz_play.specs.World.{actors};
-ghost use Rattle.rz_play.specs.Stops.{most_turns};
+ghost use Rattle.rz_play.specs.Stops.{JournalRefused, StopsLineOver, most_turns};
 ghost use Rattle.rz_player.specs.Behind.{Before, behind};
-ghost use Rattle.rz_player.specs.Ends.{StaysTrue, CountsTurns, IsRoundPlayed, IsLinePlayed, OnStop};
+ghost use Rattle.rz_player.specs.Ends.{StaysTrue, CountsTurns, IsCut, IsLinePlayed, IsLogOf, IsRoundPlayed, OnCut, OnStop, StopsAmong};
 
 use crate::stage::Stage;
 use crate::turns::{CutCause, take_turn};
@@ -110,8 +110,9 @@ fn take_round<S: Stage, L: Link>(
     ensures journal { S.journaled stage.new ≡ S.journaled stage.old }
     ensures ready { OnOk result (S.is_ready stage.new) }
     ensures lost { (S.world stage.new).lost + L.lost link.old ≤ (S.world stage.old).lost + L.lost link.new }
+    ensures faults { (first : ℕ) → S.counts_on stage.old first → S.counts_on stage.new first }
     ensures held { OnOk result (StaysTrue (S.holds stage.old) (S.holds stage.new)) }
-    ensures left { OnErr result (StaysTrue (S.holds stage.old) (S.leaves stage.new)) }
+    ensures cut { OnCut result (IsCut (S.cut_off stage.new) (S.holds stage.old) (S.leaves stage.new) (λ c b. IsLogOf (StopsAmong (S.volume stage.old) (JournalRefused c) actors.now S.tells (behind b.log (S.world stage.old))) (behind b.log (S.world stage.new)))) }
     ensures stopped { OnStop result (S.is_ready stage.new × StaysTrue (S.holds stage.old) (S.holds stage.new)) }
     ensures counted { CountsTurns result (S.world stage.old) (S.world stage.new) }
     ensures few { OnOk result ((S.world stage.new).turns ≤ most_turns) }
@@ -135,8 +136,9 @@ fn play_round<S: Stage, L: Link>(stage: &mut S, link: &mut L) -> Result<bool, Cu
     ensures journal { S.journaled stage.new ≡ S.journaled stage.old }
     ensures ready { OnOk result (S.is_ready stage.new) }
     ensures lost { (S.world stage.new).lost + L.lost link.old ≤ (S.world stage.old).lost + L.lost link.new }
+    ensures faults { (first : ℕ) → S.counts_on stage.old first → S.counts_on stage.new first }
     ensures held { OnOk result (StaysTrue (S.holds stage.old) (S.holds stage.new)) }
-    ensures left { OnErr result (StaysTrue (S.holds stage.old) (S.leaves stage.new)) }
+    ensures cut { OnCut result (IsCut (S.cut_off stage.new) (S.holds stage.old) (S.leaves stage.new) (λ c b. IsLogOf (StopsAmong (S.volume stage.old) (JournalRefused c) actors S.tells (behind b.log (S.world stage.old))) (behind b.log (S.world stage.new)))) }
     ensures stopped { OnStop result (S.is_ready stage.new × StaysTrue (S.holds stage.old) (S.holds stage.new)) }
     ensures counted { CountsTurns result (S.world stage.old) (S.world stage.new) }
     ensures few { OnOk result ((S.world stage.new).turns ≤ most_turns) }
@@ -157,8 +159,9 @@ pub(crate) fn play_rounds<S: Stage, L: Link>(
     ensures journal { S.journaled stage.new ≡ S.journaled stage.old }
     ensures ready { OnOk result (S.is_ready stage.new) }
     ensures lost { (S.world stage.new).lost + L.lost link.old ≤ (S.world stage.old).lost + L.lost link.new }
+    ensures faults { (first : ℕ) → S.counts_on stage.old first → S.counts_on stage.new first }
     ensures held { OnOk result (StaysTrue (S.holds stage.old) (S.holds stage.new)) }
-    ensures left { OnErr result (StaysTrue (S.holds stage.old) (S.leaves stage.new)) }
+    ensures cut { OnCut result (IsCut (S.cut_off stage.new) (S.holds stage.old) (S.leaves stage.new) (λ c b. IsLogOf (StopsLineOver (S.volume stage.old) (JournalRefused c) (line.Rounds count) S.tells (behind b.log (S.world stage.old))) (behind b.log (S.world stage.new)))) }
     ensures stopped { OnStop result (S.is_ready stage.new × StaysTrue (S.holds stage.old) (S.holds stage.new)) }
     ensures few { OnOk result ((S.world stage.new).turns ≤ most_turns) }
     ensures played { (b : Before) → S.holds stage.old b → IsLinePlayed (S.volume stage.old) (line.Rounds count) S.tells (behind b.log (S.world stage.old)) result (behind b.log (S.world stage.new)) }
@@ -179,8 +182,9 @@ pub(crate) fn play_to_rest<S: Stage, L: Link>(stage: &mut S, link: &mut L) -> Re
     ensures journal { S.journaled stage.new ≡ S.journaled stage.old }
     ensures ready { OnOk result (S.is_ready stage.new) }
     ensures lost { (S.world stage.new).lost + L.lost link.old ≤ (S.world stage.old).lost + L.lost link.new }
+    ensures faults { (first : ℕ) → S.counts_on stage.old first → S.counts_on stage.new first }
     ensures held { OnOk result (StaysTrue (S.holds stage.old) (S.holds stage.new)) }
-    ensures left { OnErr result (StaysTrue (S.holds stage.old) (S.leaves stage.new)) }
+    ensures cut { OnCut result (IsCut (S.cut_off stage.new) (S.holds stage.old) (S.leaves stage.new) (λ c b. IsLogOf (StopsLineOver (S.volume stage.old) (JournalRefused c) line.Rest S.tells (behind b.log (S.world stage.old))) (behind b.log (S.world stage.new)))) }
     ensures stopped { OnStop result (S.is_ready stage.new × StaysTrue (S.holds stage.old) (S.holds stage.new)) }
     ensures few { OnOk result ((S.world stage.new).turns ≤ most_turns) }
     ensures played { (b : Before) → S.holds stage.old b → IsLinePlayed (S.volume stage.old) line.Rest S.tells (behind b.log (S.world stage.old)) result (behind b.log (S.world stage.new)) }

@@ -1,13 +1,14 @@
 //! What a script is played on.
-ghost use Rattle.std.specs.Prelude.{◌≡◌, ◌<◌, ◌≤◌, ◌+◌, ℕ, Bool, IsTrue, OnOk, OnErr, reverse};
+ghost use Rattle.std.specs.Prelude.{◌≡◌, ◌<◌, ◌≤◌, ◌+◌, ℕ, Bool, Option, None, IsTrue, OnOk, OnErr, reverse};
 ghost use Rattle.rz_events.specs.Volume.{Volume};
 ghost use Rattle.rz_script.specs.Lines.{IsActor, IsLine};
 ghost use Rattle.rz_play.specs.World.{World, has_work};
 ghost use Rattle.rz_play.specs.Free.{IsTurnOver};
 ghost use Rattle.rz_play.specs.Lines.{PlaysLineOver, TakesNoTurn};
-ghost use Rattle.rz_play.specs.Stops.{most_turns};
+ghost use Rattle.rz_events.specs.declared.export.Call.{Call as ACall};
+ghost use Rattle.rz_play.specs.Stops.{HasCause, JournalRefused, most_turns};
 ghost use Rattle.rz_player.specs.Behind.{Before, behind};
-ghost use Rattle.rz_player.specs.Ends.{StaysTrue, CutsOff, TellsOf};
+ghost use Rattle.rz_player.specs.Ends.{StaysTrue, CutsOff, IsCut, TellsOf};
 ghost use Rattle.rz_player.specs.declared.lines.PlayEnd.{PlayEnd as AnEnd};
 
 use crate::lines::PlayEnd;
@@ -39,16 +40,19 @@ pub trait Stage {
     /// How a play ends where a turn, a line or an order was not done.
     ghost cut_off: { Self → AnEnd };
 
+    /// What the journal's disk has counted, where it had counted so many faults at first.
+    ghost counts_on: { Self → ℕ → Type 0 };
+
     /// It stands between two turns.
     ghost is_ready: { Self → Type 0 };
 
     /// What is so of the disks and the log between two turns, where there was this before the first line.
     ghost holds: { Self → Before → Type 0 };
 
-    /// What is so of them where a play ended, cut off or not.
-    ghost leaves: { Self → Before → Type 0 };
+    /// What is so of them where a play ended, cut off or not. The journal refused this call, if one.
+    ghost leaves: { Self → Option ACall → Before → Type 0 };
 
-    ghost ends: { (s : Self) → StaysTrue (holds s) (leaves s) };
+    ghost ends: { (s : Self) → StaysTrue (holds s) (leaves s None) };
 
     /// How a play ends where a turn, a line or an order was not done: memory is wanting, or the journal did
     /// not keep a call.
@@ -77,9 +81,12 @@ pub trait Stage {
         ensures counted { OnOk result ((world self.new).turns ≡ (world self.old).turns + 1) }
         ensures taken { OnOk result ((b : Before) → holds self.old b → IsTurnOver (volume self.old) by Self.tells (behind b.log (world self.old)) (behind b.log (world self.new))) }
         ensures lost { (world self.new).lost + L.lost link.old ≤ (world self.old).lost + L.lost link.new }
+        ensures faults { (first : ℕ) → counts_on self.old first → counts_on self.new first }
         ensures log { OnErr result (TellsOf (world self.old) (world self.new)) }
         ensures held { OnOk result (StaysTrue (holds self.old) (holds self.new)) }
-        ensures left { OnErr result (StaysTrue (holds self.old) (leaves self.new)) };
+
+        // Where the journal refused a call, it is the one of this turn: what the actor asks next.
+        ensures left { OnErr result (IsCut (cut_off self.new) (holds self.old) (leaves self.new) (λ c b. HasCause (volume self.old) (JournalRefused c) (world self.old) by)) };
 
     /// A line is carried out that takes no turn: an operation or a loss is noted for an actor, or a node is
     /// given an order.
@@ -92,9 +99,12 @@ pub trait Stage {
         ensures ready { OnOk result (is_ready self.new) }
         ensures played { OnOk result (PlaysLineOver (volume self.old) line.now Self.tells (world self.old) (world self.new)) }
         ensures lost { (world self.new).lost ≡ (world self.old).lost }
+        ensures faults { (first : ℕ) → counts_on self.old first → counts_on self.new first }
         ensures log { OnErr result ((world self.new).log ≡ (world self.old).log) }
         ensures held { OnOk result (StaysTrue (holds self.old) (holds self.new)) }
-        ensures left { OnErr result (StaysTrue (holds self.old) (leaves self.new)) };
+
+        // The journal is asked nothing.
+        ensures left { OnErr result (IsCut (cut_off self.new) (holds self.old) (leaves self.new) (λ c b. ⊥)) };
 }
 
 /// A stage whose log can be read.

@@ -1,10 +1,10 @@
 //! Turns of one actor.
-ghost use Rattle.std.specs.Prelude.{◌≡◌, ◌≤◌, ◌<◌, ◌+◌, OnOk, OnErr};
+ghost use Rattle.std.specs.Prelude.{ℕ, ◌≡◌, ◌≤◌, ◌<◌, ◌+◌, OnOk, OnErr};
 ghost use Rattle.rz_script.specs.Lines.{IsActor};
 ghost use Rattle.rz_script.specs.declared.line.Line.TheVariants as line;
-ghost use Rattle.rz_play.specs.Stops.{most_turns};
+ghost use Rattle.rz_play.specs.Stops.{JournalRefused, StopsLineOver, most_turns};
 ghost use Rattle.rz_player.specs.Behind.{Before, behind};
-ghost use Rattle.rz_player.specs.Ends.{StaysTrue, IsTurnTaken, IsLinePlayed, OnStop};
+ghost use Rattle.rz_player.specs.Ends.{StaysTrue, IsCut, IsLinePlayed, IsLogOf, IsTurnRefused, IsTurnTaken, OnCut, OnStop};
 
 use crate::stage::Stage;
 use rz_events::Actor;
@@ -45,8 +45,9 @@ pub(crate) fn take_turn<S: Stage, L: Link>(
     ensures journal { S.journaled stage.new ≡ S.journaled stage.old }
     ensures ready { OnOk result (S.is_ready stage.new) }
     ensures lost { (S.world stage.new).lost + L.lost link.old ≤ (S.world stage.old).lost + L.lost link.new }
+    ensures faults { (first : ℕ) → S.counts_on stage.old first → S.counts_on stage.new first }
     ensures held { OnOk result (StaysTrue (S.holds stage.old) (S.holds stage.new)) }
-    ensures left { OnErr result (StaysTrue (S.holds stage.old) (S.leaves stage.new)) }
+    ensures cut { OnCut result (IsCut (S.cut_off stage.new) (S.holds stage.old) (S.leaves stage.new) (λ c b. IsTurnRefused (S.volume stage.old) by c (behind b.log (S.world stage.old)) (behind b.log (S.world stage.new)))) }
     ensures stopped { OnStop result (S.is_ready stage.new × StaysTrue (S.holds stage.old) (S.holds stage.new)) }
     ensures counted { OnOk result ((S.world stage.old).turns < (S.world stage.new).turns) }
     ensures few { OnOk result ((S.world stage.new).turns ≤ most_turns) }
@@ -73,8 +74,9 @@ pub(crate) fn take_turns<S: Stage, L: Link>(
     ensures journal { S.journaled stage.new ≡ S.journaled stage.old }
     ensures ready { OnOk result (S.is_ready stage.new) }
     ensures lost { (S.world stage.new).lost + L.lost link.old ≤ (S.world stage.old).lost + L.lost link.new }
+    ensures faults { (first : ℕ) → S.counts_on stage.old first → S.counts_on stage.new first }
     ensures held { OnOk result (StaysTrue (S.holds stage.old) (S.holds stage.new)) }
-    ensures left { OnErr result (StaysTrue (S.holds stage.old) (S.leaves stage.new)) }
+    ensures cut { OnCut result (IsCut (S.cut_off stage.new) (S.holds stage.old) (S.leaves stage.new) (λ c b. IsLogOf (StopsLineOver (S.volume stage.old) (JournalRefused c) (line.Turn by count) S.tells (behind b.log (S.world stage.old))) (behind b.log (S.world stage.new)))) }
     ensures stopped { OnStop result (S.is_ready stage.new × StaysTrue (S.holds stage.old) (S.holds stage.new)) }
     ensures few { OnOk result ((S.world stage.new).turns ≤ most_turns) }
     ensures played { (b : Before) → S.holds stage.old b → IsLinePlayed (S.volume stage.old) (line.Turn by count) S.tells (behind b.log (S.world stage.old)) result (behind b.log (S.world stage.new)) }

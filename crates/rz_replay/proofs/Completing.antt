@@ -1,6 +1,6 @@
 -- Where nothing stands in the way of a replay that goes on after earlier runs, nothing keeps its disks shut, or cuts it off.
-use Rattle.std.proofs.Common.{ℕ, true, ◌≡◌, ◌⊎◌, inl, inr, List, [], ◌∷◌, ◌++◌, Result, Ok, Err, length, refl, subst}
-use Rattle.rz_disk.specs.Meter.{Meter, Rises, faults}
+use Rattle.std.proofs.Common.{ℕ, true, ◌≡◌, ◌⊎◌, inl, inr, List, ◌++◌, Result, Ok, Err, length, refl, subst}
+use Rattle.rz_disk.specs.Meter.{Meter}
 use Rattle.rz_events.specs.declared.events.Event.{Event}
 use Rattle.rz_script.specs.Scripts.{Script}
 use Rattle.rz_restart_laws.specs.Earlier.{IsEarlier, IsRestarted}
@@ -53,20 +53,6 @@ module _ {D : Type 0} (text : D → List ℕ) (meter : D → Meter) (image : D �
     enough-turns turns (Performed ends.TooManyTurns events) (inr used) later is =
         let on = used.goes_on refl earlier is_earlier left in absurd (turns on.old (h ++ on.old) on.restarted on.played)
 
-    -- the disk of the journal did not fail
-    kept-journal : ((nodes nodes_back : List D) (disk back : D) → old ≡ nodes ++ disk ∷ [] → new ≡ nodes_back ++ back ∷ [] → ¬ Rises (faults (meter disk)) (faults (meter back))) → (course : Course) → Back course
-        → (later : List Event) → course ≡ Performed ends.Journal later → ⊥
-    kept-journal whole Unplayed back later is = cc
-    kept-journal whole (Unopened i k) back later is = cc
-    kept-journal whole (Performed ends.Ended events) back later is = cc
-    kept-journal whole (Performed ends.TooManyTurns events) back later is = cc
-    kept-journal whole (Performed ends.NoMemory events) back later is = cc
-    kept-journal whole (Performed ends.JournalFull events) back later is = cc
-    kept-journal whole (Performed ends.Journal events) (inl none) later is = cc
-    kept-journal whole (Performed ends.Journal events) (inr used) later is =
-        let on = used.goes_on refl earlier is_earlier left in
-        absurd (whole used.nodes used.nodes_back used.journal used.journal_back used.old_are used.new_are on.journal_told.ends.0)
-
 pub complete : IsCompleteAgain → {D : Type 0} (text : D → List ℕ) (meter : D → Meter) (image : D → List ℕ → Type 0) → ResumeCompletes text meter image
 complete law text meter image words source old new lost sink status h course result asks ensues back s earlier clear =
     let p = clear.playable in
@@ -76,6 +62,6 @@ complete law text meter image words source old new lost sink status h course res
       playable = p;
       opened = all-opened text meter image old new lost h s clear.opened course how;
       turns = enough-turns text meter image old new lost h s earlier clear.is_earlier clear.left clear.turns course how;
-      journal = kept-journal text meter image old new lost h s earlier clear.is_earlier clear.left clear.journal course how;
+      journal = clear.journal;
       room = clear.room;
     })

@@ -4,6 +4,7 @@ use Rattle.mj_angles.specs.declared.layout.Layout.{Layout}
 use Rattle.rz_disk.specs.Meter.{Meter, faults, Rises as HasRisen}
 use Rattle.rz_events.specs.Volume.{Volume}
 use Rattle.rz_events.specs.declared.files.NodeSpec.{NodeSpec}
+use Rattle.rz_events.specs.declared.export.Call.{Call}
 use Rattle.rz_events.specs.declared.events.Event.{Event}
 use Rattle.rz_script.specs.declared.line.Line.{Line}
 use Rattle.rz_nodes.specs.Formatted.{AreBack}
@@ -15,8 +16,9 @@ use Rattle.rz_metadata.specs.declared.journaled.JournalRefusal.TheVariants.{Full
 use Rattle.rz_metadata.specs.Stands.{disk_of, is_journaled}
 use Rattle.rz_core.specs.Legal.{IsLegalInRuns}
 use Rattle.rz_driver.specs.Continued.{AreLeft}
+use Rattle.rz_driver.proofs.JournalEndings.{whole-stands}
 use Rattle.rz_driver.specs.Endings.{EndsAsRefused, StandsForLog, end_by}
-use Rattle.rz_player.specs.Ends.{EndsBy}
+use Rattle.rz_player.specs.Ends.{EndsAfter, EndsBy}
 use Rattle.rz_player.specs.declared.lines.PlayEnd.{PlayEnd}
 use Rattle.rz_player.specs.declared.lines.PlayEnd.TheVariants as ends
 use Rattle.rz_request.specs.Requests.{nodes_in}
@@ -25,7 +27,7 @@ use Rattle.rz_request.specs.declared.wishes.Wish.{Wish}
 use Rattle.rz_request.specs.declared.wishes.Wish.TheVariants as wishes
 use Rattle.rz_report.specs.Replays.{Course, Faulted, HasJournal, MayEnd}
 use Rattle.rz_report.specs.Scrubs.{BetweenTurns}
-use Rattle.rz_replay.specs.Disks.{AreAllBack, AreBackAgain, AreBackFrom, AreFaultsTold, AreImagesTold, IsJournalLeft, LeavesNext, MayBeResumed, asked_in, refused_by}
+use Rattle.rz_replay.specs.Disks.{AreAllBack, AreBackAgain, AreBackFrom, AreFaultsTold, AreImagesTold, IsJournalLeft, LeavesNext, MayBeResumed, asked_in}
 
 -- Without a journal.
 
@@ -49,7 +51,7 @@ plain-back tells text meter image course wishes.Again v lines lost old new h pla
 
 -- with one, that of the journal is behind them
 module _ {D : Type 0} (tells : Bool) (text : D → List ℕ) (meter : D → Meter) (image : D → List ℕ → Type 0) (course : Course) (wish : Wish) (v : Volume) (lines : List Line) (lost : ℕ) (old new : List D) (h : List Event) where
-  pub first-back : wish ≡ wishes.First → AreAllBack tells meter image course v old new h → AreBackFrom tells text meter image course wish v lines lost old new h
+  pub first-back : wish ≡ wishes.First → AreAllBack tells meter image course v lines lost old new h → AreBackFrom tells text meter image course wish v lines lost old new h
   first-back is back = subst (λ (w : Wish). AreBackFrom tells text meter image course w v lines lost old new h) (sym is) back
 
   pub again-back : wish ≡ wishes.Again → AreBackAgain tells text meter image course v lines lost old new h → AreBackFrom tells text meter image course wish v lines lost old new h
@@ -73,6 +75,11 @@ module _ {D : Type 0} where
   pub has-disk : (m : Metadata D) → is_journaled m ≡ true → (disk : D) × (disk_of m ≡ Some disk)
   has-disk (InMemory s) is = cc
   has-disk (Journaled j) is = (j.journal.disk, refl)
+
+  -- an export in memory has none
+  pub no-disk : (m : Metadata D) → is_journaled m ≡ false → disk_of m ≡ None
+  no-disk (InMemory s) is = refl
+  no-disk (Journaled j) is = cc
 
   module _ (meter : D → Meter) where
     pub at-last : (nodes : List D) (last : D) → faults_at meter (nodes ++ last ∷ []) (length nodes) ≡ faults (meter last)
@@ -104,45 +111,46 @@ module _ {D : Type 0} where
 
 -- Behind a journal.
 
--- the end of a play that was cut off tells what the journal refused
-refused : (end : PlayEnd) (refusal : Option JournalRefusal) → end ≡ end_by refusal → refusal ≡ refused_by end
-refused end None is = ap refused_by (sym is)
-refused end (Some Full) is = ap refused_by (sym is)
-refused end (Some Failed) is = ap refused_by (sym is)
+-- how a play ended tells what the journal refused
 
-module _ (tells : Bool) (image : List ℕ → Type 0) (first now : ℕ) (v : Volume) (h : List Event) where
-  ends-so : (end : PlayEnd) (refusal : Option JournalRefusal) → end ≡ end_by refusal → EndsAsRefused refusal tells image first now v h → EndsAsRefused (refused_by end) tells image first now v h
-  ends-so end refusal is ended = let P : Option JournalRefusal → Type 0 = λ r. EndsAsRefused r tells image first now v h in subst P (refused end refusal is) ended
+full-is : (why : Option JournalRefusal) → ends.JournalFull ≡ end_by why → why ≡ Some Full
+full-is None is = cc
+full-is (Some Full) is = refl
+full-is (Some Failed) is = cc
 
-  failed-so : EndsAsRefused (refused_by ends.Journal) tells image first now v h → HasRisen first now
-  failed-so ended = ended.ends.0
+failed-is : (why : Option JournalRefusal) → ends.Journal ≡ end_by why → why ≡ Some Failed
+failed-is None is = cc
+failed-is (Some Full) is = cc
+failed-is (Some Failed) is = refl
 
--- a journal ends a play of `first`
-pub first-end : (end : PlayEnd) (refusal : Option JournalRefusal) (journaled : Bool) (r : Request) (disks : Faulted) (tells : Bool) (image : List ℕ → Type 0) (v : Volume) (h : List Event)
-    → r.wish ≡ wishes.First → EndsBy journaled (end_by refusal) end → EndsAsRefused refusal tells image (disks.old (nodes_in r.script)) (disks.new (nodes_in r.script)) v h → MayEnd end r disks
-first-end ends.Ended refusal journaled r disks tells image v h first cut ended = tt
-first-end ends.TooManyTurns refusal journaled r disks tells image v h first cut ended = tt
-first-end ends.NoMemory refusal journaled r disks tells image v h first cut ended = tt
-first-end ends.JournalFull refusal journaled r disks tells image v h first cut ended = subst HasJournal (sym first) tt
-first-end ends.Journal refusal journaled r disks tells image v h first cut ended =
-    (subst HasJournal (sym first) tt, λ is. failed-so tells image (disks.old (nodes_in r.script)) (disks.new (nodes_in r.script)) v h (ends-so tells image (disks.old (nodes_in r.script)) (disks.new (nodes_in r.script)) v h ends.Journal refusal cut.0 ended))
+none-is : (why : Option JournalRefusal) → ends.NoMemory ≡ end_by why → why ≡ None
+none-is None is = refl
+none-is (Some Full) is = cc
+none-is (Some Failed) is = cc
 
--- and one of `again`
-pub again-end : (end : PlayEnd) (r : Request) (disks : Faulted) → r.wish ≡ wishes.Again → MayEnd end r disks
-again-end ends.Ended r disks again = tt
-again-end ends.TooManyTurns r disks again = tt
-again-end ends.NoMemory r disks again = tt
-again-end ends.JournalFull r disks again = subst HasJournal (sym again) tt
-again-end ends.Journal r disks again = (subst HasJournal (sym again) tt, λ first. let other : wishes.First ≡ wishes.Again = sym first ∙ again in cc)
+-- a journal ends a play
+pub journal-end : (end : PlayEnd) (why : Option JournalRefusal) (journaled : Bool) (r : Request) (disks : Faulted) → HasJournal r.wish → EndsBy journaled (end_by why) end
+    → (why ≡ Some Failed → HasRisen (disks.old (nodes_in r.script)) (disks.new (nodes_in r.script))) → MayEnd end r disks
+journal-end ends.Ended why journaled r disks has cut risen = tt
+journal-end ends.TooManyTurns why journaled r disks has cut risen = tt
+journal-end ends.NoMemory why journaled r disks has cut risen = tt
+journal-end ends.JournalFull why journaled r disks has cut risen = has
+journal-end ends.Journal why journaled r disks has cut risen = (has, risen (failed-is why cut.0))
 
-module _ {D : Type 0} (tells : Bool) (meter : D → Meter) (image : D → List ℕ → Type 0) (v : Volume) (old new : D) (h : List Event) where
-  pub journal-left : (end : PlayEnd) (refusal : Option JournalRefusal) (journaled : Bool) → EndsBy journaled (end_by refusal) end → BetweenTurns end (IsTrue tells → StandsForLog (image new) v h)
-      → EndsAsRefused refusal tells (image new) (faults (meter old)) (faults (meter new)) v h → IsJournalLeft tells meter image end v old new h
-  journal-left ends.Ended refusal journaled cut stands ended = stands
-  journal-left ends.TooManyTurns refusal journaled cut stands ended = stands
-  journal-left ends.NoMemory refusal journaled cut stands ended = ends-so tells (image new) (faults (meter old)) (faults (meter new)) v h ends.NoMemory refusal cut.0 ended
-  journal-left ends.Journal refusal journaled cut stands ended = ends-so tells (image new) (faults (meter old)) (faults (meter new)) v h ends.Journal refusal cut.0 ended
-  journal-left ends.JournalFull refusal journaled cut stands ended = ends-so tells (image new) (faults (meter old)) (faults (meter new)) v h ends.JournalFull refusal cut.0 ended
+module _ {D : Type 0} (tells : Bool) (meter : D → Meter) (image : D → List ℕ → Type 0) (v : Volume) (old new : D) (h : List Event) (stops : Call → Type 0) (why : Option JournalRefusal) (journaled : Bool) where
+  abbrev Ends : Option JournalRefusal → Option Call → Type 0
+  Ends o c = EndsAsRefused o c tells (image new) (faults (meter old)) (faults (meter new)) v h
+
+  pub journal-left : (end : PlayEnd) (refused : Option Call) → EndsBy journaled (end_by why) end → EndsAfter end refused → ((c : Call) → refused ≡ Some c → stops c) → BetweenTurns end (IsTrue tells → StandsForLog (image new) v h)
+      → Ends why refused → IsJournalLeft tells meter image stops end v old new h
+  journal-left ends.Ended refused cut after stopped stands ended = stands
+  journal-left ends.TooManyTurns refused cut after stopped stands ended = stands
+  journal-left ends.NoMemory refused cut after stopped stands ended =
+      whole-stands why refused tells (image new) (faults (meter old)) (faults (meter new)) v h (λ failed. let never : None ≡ Some Failed = sym (none-is why cut.0) ∙ failed in cc) ended
+  journal-left ends.Journal None cut after stopped stands ended = absurd (cc)
+  journal-left ends.Journal (Some c) cut after stopped stands ended = (c, stopped c refl, subst (λ (o : Option JournalRefusal). Ends o (Some c)) (failed-is why cut.0) ended)
+  journal-left ends.JournalFull None cut after stopped stands ended = absurd (cc)
+  journal-left ends.JournalFull (Some c) cut after stopped stands ended = (c, stopped c refl, subst (λ (o : Option JournalRefusal). Ends o (Some c)) (full-is why cut.0) ended)
 
 -- what goes from one to the other between two turns does so where a play ended between two turns
 pub between-on : (end : PlayEnd) (so then : Type 0) → (so → then) → BetweenTurns end so → BetweenTurns end then
@@ -154,19 +162,19 @@ between-on ends.JournalFull so then on h = tt
 
 -- What a run leaves for the next.
 
--- where a play ended between two turns the stage holds, and where the journal was full it says so
-pub whole-end : (Holds Leaves : Type 0) (end : PlayEnd) (refusal : Option JournalRefusal) (journaled : Bool) → EndsBy journaled (end_by refusal) end → BetweenTurns end Holds → Leaves → LeavesNext end (Holds ⊎ (Leaves × (refusal ≡ Some Full)))
-whole-end Holds Leaves ends.Ended refusal journaled cut holds left = inl holds
-whole-end Holds Leaves ends.TooManyTurns refusal journaled cut holds left = inl holds
-whole-end Holds Leaves ends.JournalFull refusal journaled cut holds left = inr (left, refused ends.JournalFull refusal cut.0)
-whole-end Holds Leaves ends.NoMemory refusal journaled cut holds left = tt
-whole-end Holds Leaves ends.Journal refusal journaled cut holds left = tt
+-- where a play ended between two turns the stage holds, and where it was cut off it says why
+pub whole-end : (Holds Leaves : Type 0) (end : PlayEnd) (why : Option JournalRefusal) (journaled : Bool) → EndsBy journaled (end_by why) end → BetweenTurns end Holds → Leaves → LeavesNext end (Holds ⊎ (Leaves × (why ≢ Some Failed)))
+whole-end Holds Leaves ends.Ended why journaled cut holds left = inl holds
+whole-end Holds Leaves ends.TooManyTurns why journaled cut holds left = inl holds
+whole-end Holds Leaves ends.JournalFull why journaled cut holds left = inr (left, λ failed. let never : Some Full ≡ Some Failed = sym (full-is why cut.0) ∙ failed in cc)
+whole-end Holds Leaves ends.NoMemory why journaled cut holds left = inr (left, λ failed. let never : None ≡ Some Failed = sym (none-is why cut.0) ∙ failed in cc)
+whole-end Holds Leaves ends.Journal why journaled cut holds left = tt
 
 pub next-on : (end : PlayEnd) (so then : Type 0) → (so → then) → LeavesNext end so → LeavesNext end then
 next-on ends.Ended so then on h = on h
 next-on ends.TooManyTurns so then on h = on h
 next-on ends.JournalFull so then on h = on h
-next-on ends.NoMemory so then on h = tt
+next-on ends.NoMemory so then on h = on h
 next-on ends.Journal so then on h = tt
 
 pub may-follow : {D : Type 0} (image : D → List ℕ → Type 0) (v : Volume) (h : List Event) (disks : List D) → IsLegalInRuns v h → AreLeft image v h disks → MayBeResumed image v h disks

@@ -1,6 +1,7 @@
 -- When nothing stands in the way of a replay that goes on after earlier runs, so that it comes to its end.
-use Rattle.std.specs.Prelude.{ℕ, true, ◌≡◌, ◌⊎◌, List, [], ◌∷◌, ◌++◌, Option, Result, length}
-use Rattle.rz_disk.specs.Meter.{Meter, Rises, faults}
+use Rattle.std.specs.Prelude.{ℕ, true, ◌≡◌, ◌⊎◌, List, Option, Result, length}
+use Rattle.rz_disk.specs.Meter.{Meter, Rises}
+use Rattle.rz_driver_nodes.specs.Meters.{faults_at}
 use Rattle.rz_request.specs.Line.{Meaning}
 use Rattle.rz_events.specs.declared.events.Event.{Event}
 use Rattle.rz_script.specs.Scripts.{Script}
@@ -8,7 +9,7 @@ use Rattle.rz_restart_laws.specs.Earlier.{IsEarlier, IsRestarted}
 use Rattle.rz_nodes.specs.declared.refusal.OpenRefusal.TheVariants.{Open}
 use Rattle.rz_driver.specs.Continued.{AreLeft, IsCauseAgain}
 use Rattle.rz_player.specs.declared.lines.PlayEnd.TheVariants.{TooManyTurns, JournalFull}
-use Rattle.rz_request.specs.Requests.{Asks, Reading}
+use Rattle.rz_request.specs.Requests.{Asks, Reading, nodes_in}
 use Rattle.rz_request.specs.declared.refusal.Stop.{Stop}
 use Rattle.rz_request.specs.declared.wishes.Request.{Request}
 use Rattle.rz_request.specs.declared.wishes.Wish.TheVariants.{Again}
@@ -26,7 +27,7 @@ pub record IsResumeClear {D : Type 0} (text : D → List ℕ) (meter : D → Met
   pub left : AreLeft image s.volume earlier old
   pub opened : (index cause : ℕ) → ¬ IsCauseAgain true meter text image s.volume old new (Open index cause)
   pub turns : (before h : List Event) → IsRestarted s.volume earlier before → ¬ IsPlayAfter s.volume before s.lines TooManyTurns lost h
-  pub journal : (nodes nodes_back : List D) (disk back : D) → old ≡ nodes ++ disk ∷ [] → new ≡ nodes_back ++ back ∷ [] → ¬ Rises (faults (meter disk)) (faults (meter back))
+  pub journal : ¬ Rises (faults_at meter old (nodes_in s)) (faults_at meter new (nodes_in s))
   pub room : (later : List Event) → ¬ (course ≡ Performed JournalFull later)
 
 -- Where nothing stands in its way, a replay that goes on after earlier runs, over disks that tell their texts, comes to its end, or

@@ -1,5 +1,5 @@
 -- Disks as they were lent, and as they are handed back.
-use Rattle.std.specs.Prelude.{ℕ, Bool, false, IsTrue, ◌≡◌, ◌≢◌, ◌<◌, ◌≤◌, ◌+◌, ◌^◌, map, length, List, [], ◌∷◌, ◌++◌, Option, Some, None, Result, Ok, Err}
+use Rattle.std.specs.Prelude.{ℕ, Bool, false, IsTrue, ◌≡◌, ◌≢◌, ◌<◌, ◌≤◌, ◌+◌, ◌^◌, map, length, List, [], ◌∷◌, ◌++◌, Some, Result, Ok, Err}
 use Rattle.rz_disk.specs.Meter.{Meter, faults}
 use Rattle.rz_driver_nodes.specs.Meters.{AreDisksCounted, faults_at}
 use Rattle.rz_driver_nodes.specs.Images.{AreDisksImaged}
@@ -7,9 +7,9 @@ use Rattle.rz_events.specs.Volume.{Volume, nodes_of}
 use Rattle.rz_events.specs.declared.files.NodeSpec.{NodeSpec}
 use Rattle.rz_events.specs.declared.nodes.Phase.TheVariants.{Lost}
 use Rattle.rz_events.specs.declared.events.Word.TheVariants.{Node}
+use Rattle.rz_events.specs.declared.export.Call.{Call}
 use Rattle.rz_events.specs.declared.events.Event.{Event}
 use Rattle.rz_nodes.specs.Formatted.{AreBack}
-use Rattle.rz_metadata.specs.declared.journaled.JournalRefusal.{JournalRefusal}
 use Rattle.rz_metadata.specs.declared.journaled.JournalRefusal.TheVariants.{Full, Failed}
 use Rattle.rz_driver.specs.Endings.{EndsAsRefused, StandsForLog}
 use Rattle.rz_driver.specs.Formatted.{IsJournalBack}
@@ -24,13 +24,14 @@ use Rattle.rz_script.specs.declared.line.Line.{Line}
 use Rattle.rz_node_model.specs.States.{NodeState}
 use Rattle.rz_export_model.specs.Export.{Export}
 use Rattle.rz_play.specs.Faults.{missed, misses}
-use Rattle.rz_play.specs.World.{World, world_after}
+use Rattle.rz_play.specs.Stops.{JournalRefused}
+use Rattle.rz_play.specs.World.{World, new_world, world_after}
 use Rattle.rz_play_laws.specs.Fine.{IsFine}
 use Rattle.rz_play_laws.specs.Runs.{IsRunAfter}
 use Rattle.rz_play_locks.specs.Kept.{IsKeptAfter}
 use Rattle.rz_play_locks.specs.Operations.{given}
-use Rattle.rz_player.specs.Ends.{IsEnded}
-use Rattle.rz_player.specs.declared.lines.PlayEnd.TheVariants.{Ended, TooManyTurns, NoMemory, Journal, JournalFull}
+use Rattle.rz_player.specs.Ends.{IsEnded, IsStoppedOver}
+use Rattle.rz_player.specs.declared.lines.PlayEnd.TheVariants.{Journal, JournalFull}
 use Rattle.rz_player.specs.declared.lines.PlayEnd.{PlayEnd}
 use Rattle.rz_request.specs.declared.refusal.Stop.{Stop}
 use Rattle.rz_request.specs.declared.wishes.Request.{Request}
@@ -64,27 +65,19 @@ asked_in Unplayed = []
 asked_in (Unopened index cause) = []
 asked_in (Performed end later) = later
 
--- what a journal refused, where a play was cut off
-abbrev pub refused_by : PlayEnd → Option JournalRefusal
-refused_by Journal = Some Failed
-refused_by JournalFull = Some Full
-refused_by NoMemory = None
-refused_by Ended = None
-refused_by TooManyTurns = None
-
--- Each image stands for the calls of the log; and where the play was cut off, maybe also for a call that was not replied to.
-abbrev pub IsJournalLeft : {D : Type 0} → Bool → (D → Meter) → (D → List ℕ → Type 0) → PlayEnd → Volume → (old new : D) → List Event → Type 0
-IsJournalLeft tells meter image Ended v old new h = IsTrue tells → StandsForLog (image new) v h
-IsJournalLeft tells meter image TooManyTurns v old new h = IsTrue tells → StandsForLog (image new) v h
-IsJournalLeft tells meter image NoMemory v old new h = EndsAsRefused (refused_by NoMemory) tells (image new) (faults (meter old)) (faults (meter new)) v h
-IsJournalLeft tells meter image Journal v old new h = EndsAsRefused (refused_by Journal) tells (image new) (faults (meter old)) (faults (meter new)) v h
-IsJournalLeft tells meter image JournalFull v old new h = EndsAsRefused (refused_by JournalFull) tells (image new) (faults (meter old)) (faults (meter new)) v h
+-- Each image stands for the calls of the log. A journal that ended the play refused the call of the turn before which the play stopped:
+-- it had no half for the export and that call; or its disk failed, and each image stands for the calls of the log, or for these and
+-- that one.
+abbrev pub IsJournalLeft : {D : Type 0} → Bool → (D → Meter) → (D → List ℕ → Type 0) → (stops : Call → Type 0) → PlayEnd → Volume → (old new : D) → List Event → Type 0
+IsJournalLeft tells meter image stops Journal v old new h = (c : Call) × stops c × EndsAsRefused (Some Failed) (Some c) tells (image new) (faults (meter old)) (faults (meter new)) v h
+IsJournalLeft tells meter image stops JournalFull v old new h = (c : Call) × stops c × EndsAsRefused (Some Full) (Some c) tells (image new) (faults (meter old)) (faults (meter new)) v h
+IsJournalLeft tells meter image stops end v old new h = IsTrue tells → StandsForLog (image new) v h
 
 -- Where no play began, each image of a journal's disk is one from before, or its header is shut, or it stands for no calls.
-abbrev pub IsJournalTold : {D : Type 0} → Bool → (D → Meter) → (D → List ℕ → Type 0) → Course → Volume → (old new : D) → List Event → Type 0
-IsJournalTold tells meter image Unplayed v old new h = IsJournalBack tells meter image v old new
-IsJournalTold tells meter image (Unopened index cause) v old new h = ⊥
-IsJournalTold tells meter image (Performed end later) v old new h = IsJournalLeft tells meter image end v old new h
+abbrev pub IsJournalTold : {D : Type 0} → Bool → (D → Meter) → (D → List ℕ → Type 0) → (stops : Call → Type 0) → Course → Volume → (old new : D) → List Event → Type 0
+IsJournalTold tells meter image stops Unplayed v old new h = IsJournalBack tells meter image v old new
+IsJournalTold tells meter image stops (Unopened index cause) v old new h = ⊥
+IsJournalTold tells meter image stops (Performed end later) v old new h = IsJournalLeft tells meter image stops end v old new h
 
 -- What a run leaves for one more, which goes on over its disks: they are as that run takes them, and the log is one of earlier runs,
 -- if it has fewer than 2^63 events and no node is lost after it.
@@ -92,13 +85,10 @@ pub record MayBeResumed {D : Type 0} (image : D → List ℕ → Type 0) (v : Vo
   pub earlier : length h < 2 ^ 63 → ((n : ℕ) → IsNodeOf v n → phase (of_word (Node n) h) ≢ Lost) → IsEarlier v h
   pub left : AreLeft image v h disks
 
--- a run leaves that which ended between two turns, or where the journal was full
+-- a run leaves that, however its play ended, but where the journal's disk failed
 abbrev pub LeavesNext : PlayEnd → Type 0 → Type 0
-LeavesNext Ended next = next
-LeavesNext TooManyTurns next = next
-LeavesNext JournalFull next = next
-LeavesNext NoMemory next = Unit {0}
 LeavesNext Journal next = Unit {0}
+LeavesNext end next = next
 
 abbrev pub IsNextTold : {D : Type 0} → Bool → (D → List ℕ → Type 0) → Course → Volume → List D → List Event → Type 0
 IsNextTold tells image Unplayed v new h = Unit {0}
@@ -107,7 +97,7 @@ IsNextTold tells image (Performed end later) v new h = IsTrue tells → LeavesNe
 
 -- The disks of the nodes, and behind them that of a journal. The faults of the nodes are told by the log with the records that were
 -- asked for after it.
-pub record AreAllBack {D : Type 0} (tells : Bool) (meter : D → Meter) (image : D → List ℕ → Type 0) (course : Course) (v : Volume) (old new : List D) (h : List Event) : Type 0 where
+pub record AreAllBack {D : Type 0} (tells : Bool) (meter : D → Meter) (image : D → List ℕ → Type 0) (course : Course) (v : Volume) (lines : List Line) (lost : ℕ) (old new : List D) (h : List Event) : Type 0 where
   pub nodes : List D
   pub journal : D
   pub old_are : old ≡ nodes ++ journal ∷ []
@@ -116,7 +106,7 @@ pub record AreAllBack {D : Type 0} (tells : Bool) (meter : D → Meter) (image :
   pub new_are : new ≡ nodes_back ++ journal_back ∷ []
   pub faults_told : AreFaultsTold meter v old nodes_back (asked_in course ++ h)
   pub images_told : AreImagesTold tells meter image course v nodes nodes_back h
-  pub journal_told : IsJournalTold tells meter image course v journal journal_back h
+  pub journal_told : IsJournalTold tells meter image (λ c. IsStoppedOver tells v (JournalRefused c) (new_world v) lines lost h) course v journal journal_back h
   pub next : IsNextTold tells image course v new h
 
 -- The log of a play of these lines that went on after this one, by how it ended: when it began, nodes and export stood as that log
@@ -145,7 +135,7 @@ pub record IsGoneOn {D : Type 0} (tells : Bool) (meter : D → Meter) (image : D
   pub losses : missed h ≤ misses lines + lost
   pub faults_told : AreFaultsTold meter v disks nodes_back h
   pub images_told : AreImagesTold tells meter image (Performed end []) v disks nodes_back (h ++ old)
-  pub journal_told : IsJournalLeft tells meter image end v journal journal_back (h ++ old)
+  pub journal_told : IsJournalLeft tells meter image (λ c. IsStoppedOver tells v (JournalRefused c) (world_after played.nodes played.export old) lines lost (h ++ old)) end v journal journal_back (h ++ old)
   pub next : LeavesNext end (MayBeResumed image v (h ++ old) (nodes_back ++ journal_back ∷ []))
 
 -- The disks of the nodes, and behind them that of the journal, which were used again. Over disks that tell their texts the play
@@ -170,7 +160,7 @@ AreBackAgain tells text meter image (Performed end later) v lines lost old new h
 
 -- the disks of a request that was played, which for `first` and `again` are one more than the nodes
 abbrev pub AreBackFrom : {D : Type 0} → Bool → (D → List ℕ) → (D → Meter) → (D → List ℕ → Type 0) → Course → Wish → Volume → List Line → (lost : ℕ) → List D → List D → List Event → Type 0
-AreBackFrom tells text meter image course First v lines lost old new h = AreAllBack tells meter image course v old new h
+AreBackFrom tells text meter image course First v lines lost old new h = AreAllBack tells meter image course v lines lost old new h
 AreBackFrom tells text meter image course Again v lines lost old new h = AreBackAgain tells text meter image course v lines lost old new h
 AreBackFrom tells text meter image course _ v lines lost old new h = AreFaultsTold meter v old new (asked_in course ++ h) × AreImagesTold tells meter image course v old new h
 

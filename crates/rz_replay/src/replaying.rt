@@ -122,7 +122,7 @@ fn play_first<D: Disk, L: Link, O: Sink>(
                 link,
                 output,
             );
-            let (log, back) = driver.close_all();
+            let (log, back) = driver.close();
             *disks = back;
             Played { status, log }
         }
@@ -186,7 +186,7 @@ fn play_again<D: Disk, L: Link, O: Sink>(
                 link,
                 output,
             );
-            let (log, back) = driver.close_all();
+            let (log, back) = driver.close();
             *disks = back;
             Played { status, log }
         }

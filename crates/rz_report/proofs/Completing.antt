@@ -77,7 +77,7 @@ module _ (tells : Bool) (disks : Faulted) (lost : ℕ) (sink : Sunk) (status : �
     kept-journal : (end : PlayEnd) (r : Request) → r.script ≡ s → r.wish ≡ wish → MayEnd end r disks → end ≡ ends.Journal → ⊥
     kept-journal ends.Journal r script_is wish_is may is =
         let first : r.wish ≡ wishes.First = only-first r.wish (λ again. anew (sym wish_is ∙ again)) may.0 in
-        journal (sym wish_is ∙ first) (subst (λ (x : Script). HasRisen (disks.old (nodes_in x)) (disks.new (nodes_in x))) script_is (may.1 first))
+        journal (sym wish_is ∙ first) (subst (λ (x : Script). HasRisen (disks.old (nodes_in x)) (disks.new (nodes_in x))) script_is may.1)
     kept-journal ends.Ended r script_is wish_is may is = cc
     kept-journal ends.TooManyTurns r script_is wish_is may is = cc
     kept-journal ends.NoMemory r script_is wish_is may is = cc
@@ -122,7 +122,7 @@ module _ (tells : Bool) (disks : Faulted) (lost : ℕ) (sink : Sunk) (status : �
 
   -- A play after earlier runs.
 
-  own-end : (end : PlayEnd) (later : List Event) → ¬ (end ≡ ends.TooManyTurns) → ¬ (end ≡ ends.Journal) → ¬ (end ≡ ends.JournalFull) → TellsOwn end wishes.Again later h sink status
+  own-end : (end : PlayEnd) (later : List Event) → ¬ (end ≡ ends.TooManyTurns) → (end ≡ ends.Journal → ⊥) → ¬ (end ≡ ends.JournalFull) → TellsOwn end wishes.Again later h sink status
       → IsFinishedAgain (Performed end later) sink status h ⊎ Lacks sink status
   own-end ends.Ended later turns journal room (may, inl (found, inl took)) = inl (record {
     status_is = took.0;
@@ -137,16 +137,24 @@ module _ (tells : Bool) (disks : Faulted) (lost : ℕ) (sink : Sunk) (status : �
   own-end ends.Journal later turns journal room own = absurd (journal refl)
   own-end ends.JournalFull later turns journal room own = absurd (room refl)
 
+  -- the disk of the journal failed
+  failed : (end : PlayEnd) (r : Request) → r.script ≡ s → ¬ HasRisen (disks.old (nodes_in s)) (disks.new (nodes_in s)) → MayEnd end r disks → end ≡ ends.Journal → ⊥
+  failed ends.Journal r script_is whole may is = whole (subst (λ (x : Script). HasRisen (disks.old (nodes_in x)) (disks.new (nodes_in x))) script_is may.1)
+  failed ends.Ended r script_is whole may is = cc
+  failed ends.TooManyTurns r script_is whole may is = cc
+  failed ends.NoMemory r script_is whole may is = cc
+  failed ends.JournalFull r script_is whole may is = cc
+
   gone-on : (course : Course) → (course ≡ Unplayed → (i : ℕ) → ¬ HasRisen (disks.old i) (disks.new i)) → ((index cause : ℕ) → ¬ (course ≡ Unopened index cause))
-      → ((end : PlayEnd) (later : List Event) → course ≡ Performed end later → ¬ (end ≡ ends.TooManyTurns) × ¬ (end ≡ ends.Journal) × ¬ (end ≡ ends.JournalFull)) → (r : Request) → r.script ≡ s → r.wish ≡ wishes.Again
+      → ((end : PlayEnd) (later : List Event) → course ≡ Performed end later → ¬ (end ≡ ends.TooManyTurns) × ¬ (end ≡ ends.JournalFull)) → ¬ HasRisen (disks.old (nodes_in s)) (disks.new (nodes_in s)) → (r : Request) → r.script ≡ s → r.wish ≡ wishes.Again
       → Opens tells course r disks lost sink status h → IsFinishedAgain course sink status h ⊎ Lacks sink status
-  gone-on Unplayed formatted opened uncut r script_is wish_is (inl lacks) = inr lacks.0
-  gone-on Unplayed formatted opened uncut r script_is wish_is (inr failed) = absurd (failed.1 wish_is)
-  gone-on (Unopened index cause) formatted opened uncut r script_is wish_is unopened = absurd (opened index cause refl)
-  gone-on (Performed end later) formatted opened uncut r script_is wish_is performed =
+  gone-on Unplayed formatted opened uncut whole r script_is wish_is (inl lacks) = inr lacks.0
+  gone-on Unplayed formatted opened uncut whole r script_is wish_is (inr failed) = absurd (failed.1 wish_is)
+  gone-on (Unopened index cause) formatted opened uncut whole r script_is wish_is unopened = absurd (opened index cause refl)
+  gone-on (Performed end later) formatted opened uncut whole r script_is wish_is performed =
       let Q : Wish → Type 0 = λ w. PerformsAs tells r.script.volume r.script.lines w end later lost h sink status in
       let kept = uncut end later refl in
-      own-end end later kept.0 kept.1 kept.2 (subst Q wish_is performed.1).1
+      own-end end later kept.0 (failed end r script_is whole performed.0) kept.1 (subst Q wish_is performed.1).1
 
 -- The laws.
 
@@ -166,7 +174,6 @@ complete-again tells words source count disks lost sink status h course result a
     (gone-on tells disks lost sink status h s p.sink_whole course p.formatted clear.opened
     (λ end later is. (
       λ spent. clear.turns later (at end ends.TooManyTurns later is spent),
-      λ failed. clear.journal later (at end ends.Journal later is failed),
       λ full. clear.room later (at end ends.JournalFull later is full),
-    )))
+    )) clear.journal)
     came.0 came.1 ensues

@@ -1,15 +1,16 @@
 -- What is found after a play, as what a performance tells of it.
-use Rattle.std.proofs.Common.{ℕ, ◌≡◌, ◌⊎◌, inl, inr, ◌∙◌, ◌+◌, ◌-◌, ◌^◌, ◌++◌, ◌<◌, ◌≤◌, Bool, true, IsTrue, List, [], ◌∷◌, None, Result, Ok, Err, IfOk, length, length-append, arith, refl, ap, reverse, sym, subst}
+use Rattle.std.proofs.Common.{ℕ, ◌≡◌, ◌⊎◌, inl, inr, ◌∙◌, ◌+◌, ◌-◌, ◌^◌, ◌++◌, ◌<◌, ◌≤◌, Bool, IsTrue, List, [], ◌∷◌, Option, None, Result, Ok, Err, IfOk, length, length-append, arith, refl, ap, reverse, sym, subst}
 use Rattle.mj_angles.specs.declared.layout.Layout.{Layout}
 use Rattle.rz_events.specs.Volume.{Volume}
 use Rattle.rz_events.specs.declared.keys.Key.{Key}
 use Rattle.rz_events.specs.declared.records.Held.{Held}
+use Rattle.rz_events.specs.declared.export.Call.{Call}
 use Rattle.rz_events.specs.declared.events.Event.{Event}
 use Rattle.rz_script.specs.declared.line.Line.{Line}
 use Rattle.rz_play.specs.World.{World}
 use Rattle.rz_play.specs.Played.{PlaysLinesOver}
 use Rattle.rz_player.specs.Behind.{Before, behind}
-use Rattle.rz_player.specs.Ends.{StaysTrue, EndsBy}
+use Rattle.rz_player.specs.Ends.{IsCut, StaysTrue, EndsBy}
 use Rattle.rz_player.specs.declared.lines.PlayEnd.{PlayEnd}
 use Rattle.rz_player.specs.declared.lines.PlayEnd.TheVariants.{Ended, TooManyTurns, NoMemory, Journal, JournalFull}
 use Rattle.rz_request.specs.declared.wishes.Wish.{Wish}
@@ -161,14 +162,14 @@ any-end journaled why Journal is = cc
 any-end journaled why JournalFull is = cc
 
 -- what is left of the stage
-leaves_so : {S : Type 0} (tells : Bool) (volume : S → Volume) (world : S → World) (journaled : S → Bool) (holds leaves : S → Before → Type 0) (counts : S → List Event → (ℕ → ℕ) → Type 0) (only_asked : S → S → Type 0)
-    (end : PlayEnd) (wish : Wish) (first played last : S) (IfFound : (List ℕ → Type 0) → Type 0) → StaysTrue (holds first) (leaves played) → (end ≡ Ended → StaysTrue (holds first) (holds played))
-    → (end ≡ TooManyTurns → StaysTrue (holds first) (holds played)) → (f : Finds tells volume world journaled holds counts only_asked end wish played last IfFound) → LeavesStore world holds leaves counts only_asked end wish first last f.later
-leaves_so {S} tells volume world journaled holds leaves counts only_asked end wish first played last IfFound left held stopped f = so f.left
+leaves_so : {S : Type 0} (tells : Bool) (volume : S → Volume) (world : S → World) (journaled : S → Bool) (holds : S → Before → Type 0) (leaves : S → Option Call → Before → Type 0) (counts : S → List Event → (ℕ → ℕ) → Type 0) (only_asked : S → S → Type 0)
+    (stops : List Event → Call → Before → Type 0) (end : PlayEnd) (wish : Wish) (first played last : S) (IfFound : (List ℕ → Type 0) → Type 0) → IsCut end (holds first) (leaves played) (stops (world played).log) → (end ≡ Ended → StaysTrue (holds first) (holds played))
+    → (end ≡ TooManyTurns → StaysTrue (holds first) (holds played)) → (f : Finds tells volume world journaled holds counts only_asked end wish played last IfFound) → LeavesStore world holds leaves counts only_asked (stops (world last).log) end wish first last f.later
+leaves_so {S} tells volume world journaled holds leaves counts only_asked stops end wish first played last IfFound left held stopped f = so f.left
   where
-    so : ((f.later ≡ []) × (last ≡ played)) ⊎ ((end ≡ Ended) × (wish ≡ Scrub) × only_asked played last × CarriesCounts (holds played) (counts last (f.later ++ (world played).log))) → LeavesStore world holds leaves counts only_asked end wish first last f.later
+    so : ((f.later ≡ []) × (last ≡ played)) ⊎ ((end ≡ Ended) × (wish ≡ Scrub) × only_asked played last × CarriesCounts (holds played) (counts last (f.later ++ (world played).log))) → LeavesStore world holds leaves counts only_asked (stops (world last).log) end wish first last f.later
     so (inl (none, same)) =
-        let P : S → Type 0 = λ s. StaysTrue (holds first) (leaves s) in
+        let P : S → Type 0 = λ s. IsCut end (holds first) (leaves s) (stops (world s).log) in
         let Q : S → Type 0 = λ s. BetweenTurns end (StaysTrue (holds first) (holds s)) in
         inl (none, subst P (sym same) left, subst Q (sym same) (between end (StaysTrue (holds first) (holds played)) held stopped))
     so (inr (ended, scrubs, asked, counted)) =
@@ -176,8 +177,8 @@ leaves_so {S} tells volume world journaled holds leaves counts only_asked end wi
         inr (played, scrubs, held ended, asked, subst P (sym f.log_is) (λ b holding. counted b (held ended b holding)))
 
 -- a play, and what was sought after it, as a performance
-module _ {S : Type 0} (tells : Bool) (volume : S → Volume) (world : S → World) (journaled : S → Bool) (was : Bool) (cut_off : S → PlayEnd) (holds leaves : S → Before → Type 0) (counts : S → List Event → (ℕ → ℕ) → Type 0)
-    (only_asked : S → S → Type 0) (v : Volume) (lines : List Line) (wish : Wish) (lost : ℕ) (end : PlayEnd) (first played last : S) where
+module _ {S : Type 0} (tells : Bool) (volume : S → Volume) (world : S → World) (journaled : S → Bool) (was : Bool) (cut_off : S → PlayEnd) (holds : S → Before → Type 0) (leaves : S → Option Call → Before → Type 0) (counts : S → List Event → (ℕ → ℕ) → Type 0)
+    (only_asked : S → S → Type 0) (stops : List Event → Call → Before → Type 0) (v : Volume) (lines : List Line) (wish : Wish) (lost : ℕ) (end : PlayEnd) (first played last : S) where
   cut_so : (IfFound : (List ℕ → Type 0) → Type 0) → Finds tells volume world journaled holds counts only_asked end wish played last IfFound → EndsBy was (cut_off played) end → EndsBy was (cut_off last) end
   cut_so IfFound f cut = so f.left
     where
@@ -187,17 +188,17 @@ module _ {S : Type 0} (tells : Bool) (volume : S → Volume) (world : S → Worl
 
   pub performed_so : ((b : Before) → holds first b → IsPlayOf tells v (behind b.log (world first)) lines end lost ((world played).log ++ b.log) (world played).log)
       → (end ≡ Ended → (b : Before) → holds first b → PlaysLinesOver v lines tells (behind b.log (world first)) (behind b.log (world played)))
-      → volume played ≡ v → EndsBy was (cut_off played) end → StaysTrue (holds first) (leaves played)
+      → volume played ≡ v → EndsBy was (cut_off played) end → IsCut end (holds first) (leaves played) (stops (world played).log)
       → (end ≡ Ended → StaysTrue (holds first) (holds played)) → (end ≡ TooManyTurns → StaysTrue (holds first) (holds played))
       → (IfFound : (List ℕ → Type 0) → Type 0) (f : Finds tells volume world journaled holds counts only_asked end wish played last IfFound) (sink : Sunk) (status : ℕ)
       → ((found : List ℕ) × IsSought (holds played) tells (volume played) (world played) end wish f.later found × Says end wish found (reverse (world last).log) sink status)
       ⊎ Lacks sink status
-      → (e : PlayEnd) × (later : List Event) × LeavesStore world holds leaves counts only_asked e wish first last later × EndsBy was (cut_off last) e
+      → (e : PlayEnd) × (later : List Event) × LeavesStore world holds leaves counts only_asked (stops (world last).log) e wish first last later × EndsBy was (cut_off last) e
       × PerformsBehind (holds first) tells v (world first) lines wish e later lost (world last).log sink status
   performed_so plays whole is_of cut left held stopped IfFound f sink status told =
       let P : List Event → Type 0 = λ h. PerformsBehind (holds first) tells v (world first) lines wish end f.later lost h sink status in
       let at_end : P (world played).log = (f.may, plays, tells_so told) in
-      (end, f.later, leaves_so tells volume world journaled holds leaves counts only_asked end wish first played last IfFound left held stopped f, cut_so IfFound f cut, subst P (sym f.log_is) at_end)
+      (end, f.later, leaves_so tells volume world journaled holds leaves counts only_asked stops end wish first played last IfFound left held stopped f, cut_so IfFound f cut, subst P (sym f.log_is) at_end)
     where
       tells_so : ((found : List ℕ) × IsSought (holds played) tells (volume played) (world played) end wish f.later found × Says end wish found (reverse (world last).log) sink status)
           ⊎ Lacks sink status

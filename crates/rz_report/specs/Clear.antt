@@ -14,7 +14,7 @@ use Rattle.rz_play.specs.Stops.{TurnsSpent}
 use Rattle.rz_play.specs.Played.{StopsLinesOver}
 use Rattle.rz_play.specs.Played.{IsPlayed}
 use Rattle.rz_player.specs.Ends.{IsEndedOver}
-use Rattle.rz_player.specs.declared.lines.PlayEnd.TheVariants.{Ended, TooManyTurns, Journal, JournalFull}
+use Rattle.rz_player.specs.declared.lines.PlayEnd.TheVariants.{Ended, TooManyTurns, JournalFull}
 use Rattle.rz_show.specs.Text.{text_of}
 use Rattle.rz_request.specs.Input.{limit}
 use Rattle.rz_request.specs.Requests.{Asks, Reading, disks_for, is_large, nodes_in, wished}
@@ -76,13 +76,13 @@ ReplayCompletes = (tells : Bool) (words : Option Meaning) (source : Reading) (co
 
 -- A play after earlier runs.
 
--- Nothing stands in its way: all disks opened, and neither a turn too many, nor a fault of the journal, nor its want of room cut the
--- play off.
+-- Nothing stands in its way: all disks opened, the journal's, which is behind those of the nodes, counted no fault, and neither a turn
+-- too many nor the journal's want of room cut the play off.
 pub record IsClearAgain (words : Option Meaning) (source : Reading) (count : ℕ) (disks : Faulted) (course : Course) (sink : Sunk) (s : Script) : Type 0 where
   pub playable : IsPlayable words source count disks course sink wishes.Again s
   pub opened : (index cause : ℕ) → ¬ (course ≡ Unopened index cause)
   pub turns : (later : List Event) → ¬ (course ≡ Performed TooManyTurns later)
-  pub journal : (later : List Event) → ¬ (course ≡ Performed Journal later)
+  pub journal : ¬ HasRisen (disks.old (nodes_in s)) (disks.new (nodes_in s))
   pub room : (later : List Event) → ¬ (course ≡ Performed JournalFull later)
 
 -- the status is 0, the play came to its end, no records were asked for, and the sink took the whole text of the log of this play

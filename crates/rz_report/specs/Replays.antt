@@ -35,10 +35,9 @@ HasJournal First = Unit {0}
 HasJournal Again = Unit {0}
 HasJournal _ = ⊥
 
--- A journal ended a play: the faults of its disk, which is behind those of the nodes, rose; or it had no room for a call. Of a play
--- after earlier runs that rise is said beside the log of those.
+-- A journal ended a play: the faults of its disk, which is behind those of the nodes, rose; or it had no room for a call.
 abbrev pub MayEnd : PlayEnd → Request → Faulted → Type 0
-MayEnd Journal r disks = HasJournal r.wish × (r.wish ≡ First → HasRisen (disks.old (nodes_in r.script)) (disks.new (nodes_in r.script)))
+MayEnd Journal r disks = HasJournal r.wish × HasRisen (disks.old (nodes_in r.script)) (disks.new (nodes_in r.script))
 MayEnd JournalFull r disks = HasJournal r.wish
 MayEnd _ r disks = Unit {0}
 

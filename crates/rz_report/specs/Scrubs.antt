@@ -1,15 +1,16 @@
 -- What a scrub after a play finds.
-use Rattle.std.specs.Prelude.{ℕ, Bool, ◌≡◌, ◌⊎◌, ◌+◌, ◌-◌, ◌^◌, ◌<◌, IsTrue, List, [], ◌++◌, None, length}
+use Rattle.std.specs.Prelude.{ℕ, Bool, ◌≡◌, ◌⊎◌, ◌+◌, ◌-◌, ◌^◌, ◌<◌, IsTrue, List, [], ◌++◌, Option, None, length}
 use Rattle.rz_events.specs.Volume.{Volume}
 use Rattle.rz_events.specs.declared.keys.Key.{Key}
 use Rattle.rz_events.specs.declared.files.Listed.{Listed}
 use Rattle.rz_events.specs.declared.records.Held.{Held}
+use Rattle.rz_events.specs.declared.export.Call.{Call}
 use Rattle.rz_events.specs.declared.events.Event.{Event}
 use Rattle.rz_script.specs.declared.line.Line.{Line}
 use Rattle.rz_play.specs.World.{World, new_world}
 use Rattle.rz_play.specs.Played.{PlaysLinesOver}
 use Rattle.rz_player.specs.Behind.{Before, behind}
-use Rattle.rz_player.specs.Ends.{StaysTrue}
+use Rattle.rz_player.specs.Ends.{IsCut, StaysTrue}
 use Rattle.rz_player.specs.declared.lines.PlayEnd.{PlayEnd}
 use Rattle.rz_player.specs.declared.lines.PlayEnd.TheVariants.{Ended, TooManyTurns}
 use Rattle.rz_words.specs.Grid.{Grid}
@@ -82,11 +83,12 @@ BetweenTurns Ended so = so
 BetweenTurns TooManyTurns so = so
 BetweenTurns cut_off so = Unit {0}
 
--- Where a performance ended, disks and log are as a play leaves them; or, in a scrub and after a play to its end, these records were
--- asked for, and the faults go with those asks after the log.
-abbrev pub LeavesStore : {S : Type 0} → (S → World) → (S → Before → Type 0) → (S → Before → Type 0) → (S → List Event → (ℕ → ℕ) → Type 0) → (S → S → Type 0) → PlayEnd → Wish → S → S → List Event → Type 0
-LeavesStore {S} world holds leaves counts only_asked end wish old new later =
-    ((later ≡ []) × StaysTrue (holds old) (leaves new) × BetweenTurns end (StaysTrue (holds old) (holds new)))
+-- Where a performance ended, disks and log are as a play leaves them, and if the journal refused a call this is so of it; or, in a scrub
+-- and after a play to its end, these records were asked for, and the faults go with those asks after the log.
+abbrev pub LeavesStore : {S : Type 0} → (S → World) → (S → Before → Type 0) → (S → Option Call → Before → Type 0) → (S → List Event → (ℕ → ℕ) → Type 0) → (S → S → Type 0) → (stops : Call → Before → Type 0) → PlayEnd → Wish → S → S → List Event
+    → Type 0
+LeavesStore {S} world holds leaves counts only_asked stops end wish old new later =
+    ((later ≡ []) × IsCut end (holds old) (leaves new) stops × BetweenTurns end (StaysTrue (holds old) (holds new)))
     ⊎ ((played : S) × (wish ≡ Scrub) × StaysTrue (holds old) (holds played) × only_asked played new × CarriesCounts (holds old) (counts new (later ++ (world new).log)))
 
 -- What came of a stage whose play ended so, and of the lines where there are some.

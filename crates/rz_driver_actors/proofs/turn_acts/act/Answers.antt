@@ -1,15 +1,16 @@
-use Rattle.std.proofs.Common.{◌≡◌, IsTrue, Some, refl, ap}
+use Rattle.std.proofs.Common.{◌≡◌, IsTrue, OnErr, Some, refl, ap, subst}
 use Rattle.std.proofs.lemmas.Result.{on_ok_weaker, on_err_weaker}
 use Rattle.rz_driver_actors.specs.Acts.{IsActorMessage, Exports, Opens, Sends, Says}
 use Rattle.rz_events.specs.declared.export.Call.TheVariants as call
 use Rattle.rz_events.specs.declared.tree.TreeCall.TheVariants as tree
 use Rattle.rz_export_model.specs.Export.{export_reply}
-use Rattle.rz_metadata.specs.Stands.{export_in}
+use Rattle.rz_metadata.specs.Stands.{IsJournalOpen, export_in}
 use Rattle.rz_operation.specs.Machine.{text_of}
-use Rattle.rz_metadata.specs.Journals.{EndsOn}
-use Rattle.rz_driver_asks.specs.Asked.{call_asked, KeepsAsked}
+use Rattle.rz_operation_model.specs.Ask.{Ask, ask_of}
+use Rattle.rz_driver_actors.specs.Agendas.{work_in}
+use Rattle.rz_driver_asks.specs.Asked.{KeepsAsked, LeavesAsked, call_asked}
 use Rattle.rz_driver_actors.specs.Stores.{Asks, AsksNothing}
-use Rattle.rz_driver_actors.proofs.StoreLemmas.{ends-with-it, fate-stays, said-stays-export, same-store}
+use Rattle.rz_driver_actors.proofs.StoreLemmas.{ask-there, fate-stays, leaves-with-it, said-stays-export, same-store}
 use Rattle.rz_driver_nodes.proofs.MeterLemmas.{still-err, metered-stays, still-left, export-stays, said-stays}
 use Rattle.rz_driver_asks.specs.Locking.{IsOpenPart, open_reply}
 use Rattle.rz_driver_asks.specs.Parts.{IsExportPart}
@@ -172,25 +173,25 @@ returns-in_err-done-in-Say-clause-unchanged g c =
 -- The journal beside the log.
 
 pub returns-in_default-clause-store : goal.returns-in_default-clause-store
-returns-in_default-clause-store g c = same-store c.args.shared.now.export c.args.shared.now.export refl
+returns-in_default-clause-store g c = same-store g.J.Disk.meter c.args.shared.now.export c.args.shared.now.export refl
 
 pub returns-in-Rest-clause-store : goal.returns-in-Rest-clause-store
-returns-in-Rest-clause-store g c = same-store c.args.shared.now.export c.args.shared.now.export refl
+returns-in-Rest-clause-store g c = same-store g.J.Disk.meter c.args.shared.now.export c.args.shared.now.export refl
 
 pub returns-in-Export-clause-store : goal.returns-in-Export-clause-store
-returns-in-Export-clause-store g c = record { journal = c.ask_export.ensures.journal; volume = c.ask_export.ensures.volume }
+returns-in-Export-clause-store g c = record { journal = c.ask_export.ensures.journal; volume = c.ask_export.ensures.volume; counted = c.ask_export.ensures.counted }
 
 pub returns-in-Lock-clause-store : goal.returns-in-Lock-clause-store
-returns-in-Lock-clause-store g c = record { journal = c.open.ensures.journal; volume = c.open.ensures.volume }
+returns-in-Lock-clause-store g c = record { journal = c.open.ensures.journal; volume = c.open.ensures.volume; counted = c.open.ensures.counted }
 
 pub returns-in-Node-clause-store : goal.returns-in-Node-clause-store
-returns-in-Node-clause-store g c = same-store c.args.shared.now.export c.message.new.shared.export c.message.ensures.export
+returns-in-Node-clause-store g c = same-store g.J.Disk.meter c.args.shared.now.export c.message.new.shared.export c.message.ensures.export
 
 pub returns-in_ok-done-in-Say-clause-store : goal.returns-in_ok-done-in-Say-clause-store
-returns-in_ok-done-in-Say-clause-store g c = same-store c.args.shared.now.export c.args.shared.now.export refl
+returns-in_ok-done-in-Say-clause-store g c = same-store g.J.Disk.meter c.args.shared.now.export c.args.shared.now.export refl
 
 pub returns-in_err-done-in-Say-clause-store : goal.returns-in_err-done-in-Say-clause-store
-returns-in_err-done-in-Say-clause-store g c = same-store c.args.shared.now.export c.args.shared.now.export refl
+returns-in_err-done-in-Say-clause-store g c = same-store g.J.Disk.meter c.args.shared.now.export c.args.shared.now.export refl
 
 pub returns-in_default-clause-kept : goal.returns-in_default-clause-kept
 returns-in_default-clause-kept g c = AsksNothing refl refl
@@ -235,20 +236,30 @@ returns-in_ok-done-in-Say-clause-kept g c =
     AsksNothing refl
     (said-stays-export c.args.by c.args.agenda.now.number c.in_ok-done-in-Say.done c.in-Some.machine c.say.new.machine p.log.events c.say.new.log.events c.in_ok-done-in-Say.ensures.ok)
 
+-- Where nothing came of it.
+
 pub returns-in-Export-clause-ended : goal.returns-in-Export-clause-ended
-returns-in-Export-clause-ended g c = c.ask_export.ensures.left
+returns-in-Export-clause-ended g c =
+    let p = c.args.shared.now in
+    let P : Ask → Type 0 = λ a. OnErr c.ask_export.result (IsJournalOpen p.export → LeavesAsked g.J.Disk.tells g.J.Disk.meter g.J.Disk.image a p.export c.ask_export.new.export) in
+    subst P (ask-there c.args.layout c.args.agenda.now.machine c.in-Some.machine c.in-Some.is c.requires.machine) c.ask_export.ensures.left
 
 pub returns-in-Lock-clause-ended : goal.returns-in-Lock-clause-ended
-returns-in-Lock-clause-ended g c = c.open.ensures.left
+returns-in-Lock-clause-ended g c =
+    let p = c.args.shared.now in
+    let P : Ask → Type 0 = λ a. OnErr c.open.result (IsJournalOpen p.export → LeavesAsked g.J.Disk.tells g.J.Disk.meter g.J.Disk.image a p.export c.open.new.export) in
+    subst P (ask-there c.args.layout c.args.agenda.now.machine c.in-Some.machine c.in-Some.is c.requires.machine) c.open.ensures.left
 
 pub returns-in-Node-clause-ended : goal.returns-in-Node-clause-ended
 returns-in-Node-clause-ended g c =
     let p = c.args.shared.now in
-    let P : Type 0 = EndsOn g.J.Disk.tells g.J.Disk.meter g.J.Disk.image p.export c.message.new.shared.export in
-    on-err {P = P} c.message.result (ends-with-it g.J.Disk.tells g.J.Disk.meter g.J.Disk.image p.export c.message.new.shared.export c.message.ensures.export)
+    let ask = ask_of c.args.layout (work_in c.args.agenda.now.machine) in
+    let P : Type 0 = IsJournalOpen p.export → LeavesAsked g.J.Disk.tells g.J.Disk.meter g.J.Disk.image ask p.export c.message.new.shared.export in
+    on-err {P = P} c.message.result (leaves-with-it g.J.Disk.tells g.J.Disk.meter g.J.Disk.image ask p.export c.message.new.shared.export c.message.ensures.export)
 
 pub returns-in_err-done-in-Say-clause-ended : goal.returns-in_err-done-in-Say-clause-ended
 returns-in_err-done-in-Say-clause-ended g c =
     let p = c.args.shared.now in
-    let P : Type 0 = EndsOn g.J.Disk.tells g.J.Disk.meter g.J.Disk.image p.export p.export in
-    on-err {P = P} c.from_residual.result (ends-with-it g.J.Disk.tells g.J.Disk.meter g.J.Disk.image p.export p.export refl)
+    let ask = ask_of c.args.layout (work_in c.args.agenda.now.machine) in
+    let P : Type 0 = IsJournalOpen p.export → LeavesAsked g.J.Disk.tells g.J.Disk.meter g.J.Disk.image ask p.export p.export in
+    on-err {P = P} c.from_residual.result (leaves-with-it g.J.Disk.tells g.J.Disk.meter g.J.Disk.image ask p.export p.export refl)

@@ -1,4 +1,4 @@
-use Rattle.std.proofs.Common.{◌≡◌, ◌≤◌, take, ◌+◌}
+use Rattle.std.proofs.Common.{ℕ, ◌≡◌, ◌≤◌, take, ◌+◌}
 use Rattle.rz_play.specs.Stops.{most_turns}
 use Rattle.rz_player.specs.Behind.{Before, behind}
 use Rattle.rz_player.specs.Ends.{StaysTrue}
@@ -12,6 +12,7 @@ invariant-loop-line g l = record {
   journal : g.S.Stage.journaled l.stage ≡ g.S.Stage.journaled l.fn.stage;
   few : (g.S.Stage.world l.stage).turns ≤ most_turns;
   lost : (g.S.Stage.world l.stage).lost + g.L.Link.lost l.fn.link ≤ (g.S.Stage.world l.fn.stage).lost + g.L.Link.lost l.link;
+  faults : (first : ℕ) → g.S.Stage.counts_on l.fn.stage first → g.S.Stage.counts_on l.stage first;
   held : StaysTrue (g.S.Stage.holds l.fn.stage) (g.S.Stage.holds l.stage);
   played : (b : Before) → g.S.Stage.holds l.fn.stage b → PlaysLinesOver (g.S.Stage.volume l.fn.stage) (take l.line-index l.lines) g.S.Stage.tells (behind b.log (g.S.Stage.world l.fn.stage)) (behind b.log (g.S.Stage.world l.stage));
 }

@@ -5,8 +5,11 @@ use Rattle.rz_play.specs.World.{actors}
 use Rattle.rz_player.specs.Behind.{behind}
 use Rattle.rz_player.specs.Ends.{IsRoundPlayed}
 use Rattle.rz_player.proofs.Sequences.{rounds-more}
-use Rattle.rz_player.proofs.Cuts.{rounds-cut, rounds-done}
+use Rattle.rz_player.proofs.Cuts.{rounds-cut, rounds-done, rounds-refused}
 use Rattle.rz_player.proofs.Stops.{stopped-after}
+use Rattle.rz_play.specs.Stops.{JournalRefused}
+use Rattle.rz_player.specs.Ends.{IsLogOf, StopsAmong}
+use Rattle.rz_player.proofs.Refused.{cut-on, halted}
 use Rattle.rz_player.proofs.rounds.play_rounds.Goals as goal
 
 pub returns-in_err-play_round-clause-played : goal.returns-in_err-play_round-clause-played
@@ -41,6 +44,7 @@ loop-preserved g c =
       journal = e.journal ∙ i.journal;
       few = e.few;
       lost = (let so_far = i.lost in let then = e.lost in omega (arith, so_far, then));
+      faults = λ first had. e.faults first (i.faults first had);
       held = λ b held. e.held b (i.held b held);
       played = λ b held.
           let played = subst (λ (v : Volume). IsRoundPlayed v actors g.S.Stage.tells (behind b.log (world c.loop.stage)) (Ok c.in_ok-play_round.field-0) (behind b.log (world c.play_round.new.stage))) i.volume
@@ -54,3 +58,17 @@ returns-in_err-play_round-clause-stopped g c =
     let p = err_from_is_err_and c.from_residual.result c.from_residual.ensures.1 in
     rw (p.1, p.2) (stopped-after Bool (Unit {0}) (g.S.Stage.is_ready c.play_round.new.stage) (holds c.args.stage.now) (holds c.loop.stage) (holds c.play_round.new.stage) c.in_err-play_round.field-0.0
     c.loop.invariant.held c.in_err-play_round.ensures.stopped)
+
+pub returns-in_err-play_round-clause-cut : goal.returns-in_err-play_round-clause-cut
+returns-in_err-play_round-clause-cut g c =
+    let volume = g.S.Stage.volume in
+    let world = g.S.Stage.world in
+    let holds = g.S.Stage.holds in
+    let i = c.loop.invariant in
+    let p = err_from_is_err_and c.from_residual.result c.from_residual.ensures.1 in
+    rw (p.1, p.2) (halted Bool (Unit {0}) c.in_err-play_round.field-0.0 _ _
+    (cut-on (g.S.Stage.cut_off c.play_round.new.stage) (holds c.args.stage.now) (holds c.loop.stage) (g.S.Stage.leaves c.play_round.new.stage) _ _ i.held
+    (λ refused b held stops. rounds-refused (volume c.args.stage.now) g.S.Stage.tells c.loop.counter c.args.count (behind b.log (world c.args.stage.now)) (behind b.log (world c.loop.stage)) (behind b.log (world c.play_round.new.stage)) refused
+    c.loop-test.true (i.played b held)
+    (subst (λ (v : Volume). IsLogOf (StopsAmong v (JournalRefused refused) actors g.S.Stage.tells (behind b.log (world c.loop.stage))) (behind b.log (world c.play_round.new.stage))) i.volume stops)))
+    c.in_err-play_round.ensures.cut)

@@ -4,8 +4,10 @@ use Rattle.rz_events.specs.Volume.{Volume}
 use Rattle.rz_events.specs.declared.keys.Actor.TheVariants.{Client}
 use Rattle.rz_player.specs.Behind.{behind}
 use Rattle.rz_player.specs.Ends.{IsTurnTaken}
-use Rattle.rz_player.proofs.Amongs.{cut-at, taken-at, skipped-at}
+use Rattle.rz_player.proofs.Amongs.{cut-at, refused-at, skipped-at, taken-at}
 use Rattle.rz_player.proofs.Stops.{stopped-after}
+use Rattle.rz_player.specs.Ends.{IsTurnRefused}
+use Rattle.rz_player.proofs.Refused.{cut-on, halted}
 use Rattle.rz_player.proofs.rounds.take_round.Goals as goal
 use Rattle.rz_player.proofs.rounds.take_round.Goals.{then-is_busy+in_ok-take_turn, else-is_busy}
 
@@ -37,6 +39,7 @@ loop-by-preserved g c =
             counted = omega (arith, one, least);
             least = omega (arith, one, least);
             lost = (let so_far = i.lost in let then = w.in_ok-take_turn.ensures.lost in omega (arith, so_far, then));
+            faults = λ first had. w.in_ok-take_turn.ensures.faults first (i.faults first had);
             held = λ b held. w.in_ok-take_turn.ensures.held b (i.held b held);
             up_to = λ b held.
                 let turn = rw i.volume at (w.in_ok-take_turn.ensures.taken b (i.held b held)) in
@@ -52,6 +55,7 @@ loop-by-preserved g c =
             counted = i.counted;
             least = i.least;
             lost = i.lost;
+            faults = i.faults;
             held = i.held;
             up_to = λ b held.
                 skipped-at (volume c.args.stage.now) g.S.Stage.tells c.args.actors.now c.loop-by.by-index _ (behind b.log (world c.args.stage.now)) c.loop-by.any (behind b.log (world c.loop-by.stage))
@@ -65,3 +69,18 @@ returns-in_err-take_turn-clause-stopped g c =
     let p = err_from_is_err_and c.from_residual.result c.from_residual.ensures.1 in
     rw (p.1, p.2) (stopped-after (Unit {0}) Bool (g.S.Stage.is_ready c.take_turn.new.stage) (holds c.args.stage.now) (holds c.loop-by.stage) (holds c.take_turn.new.stage) c.in_err-take_turn.field-0.0
     c.loop-by.invariant.held c.in_err-take_turn.ensures.stopped)
+
+pub returns-in_err-take_turn-clause-cut : goal.returns-in_err-take_turn-clause-cut
+returns-in_err-take_turn-clause-cut g c =
+    let volume = g.S.Stage.volume in
+    let world = g.S.Stage.world in
+    let holds = g.S.Stage.holds in
+    let i = c.loop-by.invariant in
+    let p = err_from_is_err_and c.from_residual.result c.from_residual.ensures.1 in
+    let by = get_or c.args.actors.now c.loop-by.by-index (Client 0) in
+    rw (p.1, p.2) (halted (Unit {0}) Bool c.in_err-take_turn.field-0.0 _ _
+    (cut-on (g.S.Stage.cut_off c.take_turn.new.stage) (holds c.args.stage.now) (holds c.loop-by.stage) (g.S.Stage.leaves c.take_turn.new.stage) _ _ i.held
+    (λ refused b held turn. refused-at (volume c.args.stage.now) g.S.Stage.tells c.args.actors.now c.loop-by.by-index _ (behind b.log (world c.args.stage.now)) c.loop-by.any (behind b.log (world c.loop-by.stage))
+    (behind b.log (world c.take_turn.new.stage)) refused c.loop-by-test.true (i.up_to b held) (sym c.if-is_busy.ensures)
+    (subst (λ (v : Volume). IsTurnRefused v by refused (behind b.log (world c.loop-by.stage)) (behind b.log (world c.take_turn.new.stage))) i.volume turn)))
+    c.in_err-take_turn.ensures.cut)

@@ -1,4 +1,4 @@
-use Rattle.std.proofs.Common.{◌≡◌, ◌-◌, ◌++◌, ℕ, List, [], reverse, refl, sym, ap, ◌∙◌, subst, inl, inr, ◌+◌, arith}
+use Rattle.std.proofs.Common.{◌≡◌, ◌-◌, ◌++◌, ℕ, List, [], Option, length, reverse, refl, sym, ap, ◌∙◌, subst, inl, inr, ◌+◌, arith}
 use Rattle.rz_disk.specs.UnderFuse.{UnderFuse}
 use Rattle.rz_driver_actors.specs.declared.shared.Shared.{Shared}
 use Rattle.std.proofs.lemmas.List.{append-nil, reverse-reverse}
@@ -7,7 +7,10 @@ use Rattle.rz_events.specs.declared.events.Event.{Event}
 use Rattle.rz_script.specs.declared.line.Line.{Line}
 use Rattle.rz_events.specs.declared.files.NodeSpec.{NodeSpec}
 use Rattle.rz_driver_nodes.specs.Meters.{faults_at}
-use Rattle.rz_nodes.specs.Formatted.{AreBack, IsCause}
+use Rattle.std.specs.Prelude.{option_to_list}
+use Rattle.rz_driver_nodes.specs.Images.{AreDisksImaged}
+use Rattle.rz_nodes.specs.Formatted.{AreBack, IsCause, disks_of}
+use Rattle.rz_driver.proofs.FetchLemmas.{asked-counted}
 use Rattle.rz_driver.specs.Worlds.{HoldsBetweenTurns, anew, world_of}
 use Rattle.rz_core.specs.HeldRecords.{block_of}
 use Rattle.rz_core.specs.History.{facts, text_in}
@@ -18,11 +21,11 @@ use Rattle.rz_player.specs.Behind.{Before}
 use Rattle.rz_report.proofs.Anew.{performs, performs_as, told_as}
 use Rattle.rz_report.specs.Telling.{PerformsAs}
 use Rattle.rz_report.specs.Output.{Sunk}
-use Rattle.rz_replay.specs.Disks.{AreFaultsTold, AreImagesTold}
+use Rattle.rz_replay.specs.Disks.{AreFaultsTold, AreImagesTold, numbers_of_volume}
 use Rattle.rz_report.specs.Replays.{Unplayed, Performed, IsToldAs}
 use Rattle.rz_player.specs.declared.lines.PlayEnd.{PlayEnd}
 use Rattle.rz_metadata.specs.Stands.{is_journaled}
-use Rattle.rz_replay.proofs.Journals.{plain-back, plain-end}
+use Rattle.rz_replay.proofs.Journals.{no-disk, plain-back, plain-end}
 use Rattle.rz_replay.proofs.Lent.{back-faults, counted-none, not-opened}
 use Rattle.rz_replay.proofs.Untold.{told-none}
 use Rattle.rz_replay.proofs.replaying.play_plain.Given as given
@@ -30,6 +33,9 @@ use Rattle.rz_replay.proofs.replaying.play_plain.Goals as goal
 
 pub perform-status-requires-clause-new : goal.perform-status-requires-clause-new
 perform-status-requires-clause-new g c = ((λ n. fresh), new_export c.args.request.now.script.volume 0, c.in-Ok.ensures.world ∙ ap new_world c.volume-volume.ensures)
+
+pub perform-status-requires-clause-asked : goal.perform-status-requires-clause-asked
+perform-status-requires-clause-asked g c = asked-counted
 
 pub perform-status-requires-clause-stage : goal.perform-status-requires-clause-stage
 perform-status-requires-clause-stage g c = record {
@@ -72,14 +78,19 @@ returns-in-Ok g c =
     let held : HoldsBetweenTurns c.in-Ok.driver b = rw (← lent) c.in-Ok.ensures.held in
     let new = c.in-Ok.ensures.world ∙ ap new_world c.volume-volume.ensures in
     let F : List Event → Type 0 = λ x. AreFaultsTold g.D.Disk.meter c.perform-status.new.stage.volume c.args.disks.now.items c.close-log.result.1.items (x ++ log) in
+    let row : List g.row.D.Denot = disks_of c.perform-status.new.stage.shared.servers.items in
+    let all_are : c.close-log.result.1.items ≡ row =
+    c.close-log.ensures.disks ∙ ap (λ (o : Option g.row.D.Denot). row ++ option_to_list o) (no-disk c.perform-status.new.stage.shared.export (c.perform-status.ensures.journal ∙ c.in-Ok.ensures.journal)) ∙ append-nil row in
+    let counted_in = λ (h : List Event). subst (λ (xs : List g.row.D.Denot). AreFaultsTold g.D.Disk.meter c.perform-status.new.stage.volume c.args.disks.now.items xs h) (sym all_are) in
+    let imaged_in = subst (λ (xs : List g.row.D.Denot). AreDisksImaged g.D.Disk.image c.perform-status.new.stage.volume (numbers_of_volume c.perform-status.new.stage.volume) xs (log ++ [])) (sym all_are) in
     let none_asked : later ≡ [] → F [] → F later = λ none counted. subst F (sym none) counted in
     let counted : F later = elim c.perform-status.ensures.performed.2 [
-      | inl plays ↦ none_asked plays.0 (c.close-log.ensures.counted b (plays.1 b held))
-      | inr asks ↦ c.close-log.ensures.asked (later ++ log) b.counts (asks.4 b held)
+      | inl plays ↦ none_asked plays.0 (counted_in log (c.close-log.ensures.counted b plays.1.refused (plays.1.left b held)))
+      | inr asks ↦ counted_in (later ++ log) (c.close-log.ensures.asked (later ++ log) b.counts (asks.4 b held))
     ] in
     let images : AreImagesTold g.D.Disk.tells g.D.Disk.meter g.D.Disk.image (Performed end later) c.perform-status.new.stage.volume c.args.disks.now.items c.close-log.result.1.items (log ++ []) = elim c.perform-status.ensures.performed.2 [
-      | inl plays ↦ c.close-log.ensures.imaged b (plays.1 b held)
-      | inr asks ↦ c.close-log.ensures.since b (asks.0, inl (asks.2 b held), asks.3)
+      | inl plays ↦ λ told. imaged_in (c.close-log.ensures.imaged b plays.1.refused (plays.1.left b held) told)
+      | inr asks ↦ λ told. imaged_in (c.close-log.ensures.since b (asks.0, asks.2 b held, asks.3) told)
     ] in
     let B : Volume → Type 0 = λ x. AreFaultsTold g.D.Disk.meter x c.args.disks.now.items c.close-log.result.1.items (later ++ log) in
     let R : List Event → Type 0 = λ x. AreFaultsTold g.D.Disk.meter v c.args.disks.now.items c.close-log.result.1.items (later ++ x) in

@@ -1,4 +1,4 @@
-use Rattle.std.proofs.Common.{◌≡◌, ◌<◌, ◌-◌, ◌^◌, take, ap, ◌∙◌, subst, sym, arith}
+use Rattle.std.proofs.Common.{◌<◌, ◌-◌, ◌^◌, ap, ◌∙◌, subst, sym, arith}
 use Rattle.rz_report.specs.declared.counts.Counts.{Counts}
 use Rattle.rz_report.specs.Summary.{AreBelow, noted}
 use Rattle.rz_report.proofs.Counted.{counts-below, counts-more}

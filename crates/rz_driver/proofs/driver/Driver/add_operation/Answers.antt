@@ -19,6 +19,7 @@ use Rattle.rz_driver.proofs.ActorOrders.{place-low}
 use Rattle.rz_driver.proofs.DriverCoherence.{actor-coherence, works-with, still-counted, still-right}
 use Rattle.rz_driver.proofs.JournalLemmas.{journal-stays, journal-still}
 use Rattle.rz_driver_nodes.proofs.CoherenceLemmas.{on-err}
+use Rattle.rz_driver.proofs.Cuts.{refused-none, uncut}
 use Rattle.rz_driver.proofs.driver.Driver.add_operation.Goals as goal
 
 added : (s b : Agenda) (op : Operation) → b.todo.items ≡ s.todo.items ++ op ∷ [] → b.number ≡ s.number → b.machine ≡ s.machine → b.lock ≡ s.lock → b.miss ≡ s.miss → agenda_of b ≡ with_operation (agenda_of s) op
@@ -76,9 +77,18 @@ returns-clause-held g c = λ b met.
     )
 
 pub returns-in_err-add-clause-left : goal.returns-in_err-add-clause-left
-returns-in_err-add-clause-left g c = on-err c.from_residual-in_err-add.result (λ b met.
+returns-in_err-add-clause-left g c = on-err c.from_residual-in_err-add.result (uncut c.args.self.now _ _ c.requires.ready.journal (λ b met.
     let d = c.args.self.now in
-    inr (still-counted d d refl d.shared.log.events refl b met, still-right d d refl d.shared.log.events refl b met, journal-still d _ refl refl b met.2 refl, met.3))
+    inr (
+      still-counted d d refl d.shared.log.events refl b met,
+      still-right d d refl d.shared.log.events refl b met,
+      journal-still d _ refl refl b met.2 refl,
+      met.3,
+      refused-none d.shared.export c.requires.ready.journal,
+    )))
 
 pub returns-in_err-op-clause-left : goal.returns-in_err-op-clause-left
-returns-in_err-op-clause-left g c = on-err c.from_residual.result (λ b held. inl held)
+returns-in_err-op-clause-left g c = on-err c.from_residual.result (uncut c.args.self.now c.args.self.now _ c.requires.ready.journal (λ b held. inl (held, refl)))
+
+pub returns-in_default-clause-left : goal.returns-in_default-clause-left
+returns-in_default-clause-left g c = uncut c.args.self.now c.args.self.now _ c.requires.ready.journal (λ b held. inl (held, refl))

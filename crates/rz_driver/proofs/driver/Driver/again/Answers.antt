@@ -9,8 +9,8 @@ use Rattle.rz_driver_nodes.specs.Images.{AreDisksImaged}
 use Rattle.rz_driver_nodes.specs.Meters.{faults_at}
 use Rattle.rz_driver.specs.Continued.{AreLeft, IsCauseAgain, IsOpenedAgain, IsOpenedOver, IsRefusedOver}
 use Rattle.rz_driver.specs.Endings.{StandsForLog}
-use Rattle.rz_driver.specs.Worlds.{left_behind, IsDriver, HoldsBetweenTurns}
-use Rattle.rz_driver.proofs.AgainLemmas.{over-ready, over-again, over-held, over-untold, over-back, over-cause, journal-back, journal-cause, kept-same, split-same}
+use Rattle.rz_driver.specs.Worlds.{HasCounted, left_behind, IsDriver, HoldsBetweenTurns}
+use Rattle.rz_driver.proofs.AgainLemmas.{over-counted, over-ready, over-again, over-held, over-untold, over-back, over-cause, journal-back, journal-cause, kept-same, split-same}
 use Rattle.rz_driver.proofs.BehindJournal.{front-count}
 use Rattle.rz_driver.proofs.driver.Driver.again.Goals as goal
 
@@ -37,7 +37,7 @@ returns-in-Ok-open_journal-clause-ready g c =
     let nodes = c.in-Ok.nodes.items in
     let export = c.in-Ok-open_journal.export in
     let count = front-count c.args.disks.items nodes c.in-Ok.journal (length (nodes_of v.clusters)) c.in-Ok.ensures.split c.requires.count in
-    IfOk-weaker c.open_nodes.result (λ d. IsOpenedOver v export nodes d) (λ d. IsDriver d) (λ d over. over-ready v c.open_nodes.ensures.rules export nodes count d over) c.open_nodes.ensures.opened
+    IfOk-weaker c.open_nodes.result (λ d. IsOpenedOver v export nodes d) (λ d. IsDriver d) (λ d over. over-ready v c.open_nodes.ensures.rules export nodes count d over c.in-Ok-open_journal.ensures.open) c.open_nodes.ensures.opened
 
 pub returns-in-Ok-open_journal-clause-volume : goal.returns-in-Ok-open_journal-clause-volume
 returns-in-Ok-open_journal-clause-volume g c =
@@ -49,6 +49,18 @@ returns-in-Ok-open_journal-clause-journal g c =
     let v = c.args.volume.now in
     IfOk-weaker c.open_nodes.result (λ d. IsOpenedOver v c.in-Ok-open_journal.export c.in-Ok.nodes.items d) (λ d. is_journaled d.shared.export ≡ true)
     (λ d over. ap (λ m. is_journaled m) over.export_is ∙ c.in-Ok-open_journal.ensures.journal) c.open_nodes.ensures.opened
+
+pub returns-in-Ok-open_journal-clause-counted : goal.returns-in-Ok-open_journal-clause-counted
+returns-in-Ok-open_journal-clause-counted g c =
+    let v = c.args.volume.now in
+    let disks = c.args.disks.items in
+    let nodes = c.in-Ok.nodes.items in
+    let journal = c.in-Ok.journal in
+    let export = c.in-Ok-open_journal.export in
+    let count = front-count disks nodes journal (length (nodes_of v.clusters)) c.in-Ok.ensures.split c.requires.count in
+    IfOk-weaker c.open_nodes.result (λ d. IsOpenedOver v export nodes d) (λ d. HasCounted d (faults_at g.D.Disk.meter disks (length (nodes_of v.clusters))))
+    (λ d over. over-counted v c.open_nodes.ensures.rules export nodes count d over disks journal c.in-Ok.ensures.split
+    (over-ready v c.open_nodes.ensures.rules export nodes count d over c.in-Ok-open_journal.ensures.open) c.in-Ok-open_journal.ensures.counted) c.open_nodes.ensures.opened
 
 pub returns-in-Ok-open_journal-clause-opened : goal.returns-in-Ok-open_journal-clause-opened
 returns-in-Ok-open_journal-clause-opened g c =

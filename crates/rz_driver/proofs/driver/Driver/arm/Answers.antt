@@ -14,6 +14,7 @@ use Rattle.rz_driver.proofs.DriverCoherence.{order-holds, order-leaves}
 use Rattle.rz_driver.proofs.JournalLemmas.{journal-ordered, journal-still, arming-stays}
 use Rattle.rz_driver_nodes.proofs.CoherenceLemmas.{three-ok, three-err}
 use Rattle.rz_driver.proofs.NodeOrders.{arming-in, armed-ready, armed-world}
+use Rattle.rz_driver.proofs.Cuts.{refused-none, uncut}
 use Rattle.rz_driver.proofs.driver.Driver.arm.Goals as goal
 
 pub returns-clause-ready : goal.returns-clause-ready
@@ -22,7 +23,7 @@ returns-clause-ready g c =
     on_ok_weaker c.arm_node.result
     (λ (a : IsArming c.args.passes c.args.pick c.args.sid c.as_mut_slice.result.now c.arm_node.new.servers d.shared.log.events c.arm_node.new.log.events).
     armed-ready d _ c.requires.ready refl refl c.args.passes c.args.pick c.args.sid
-    (arming-in c.args.passes c.args.pick c.args.sid d.shared.servers c.as_mut_slice.result.now c.arm_node.new.servers d.shared.log.events c.arm_node.new.log.events c.as_mut_slice.ensures.value a) refl refl)
+    (arming-in c.args.passes c.args.pick c.args.sid d.shared.servers c.as_mut_slice.result.now c.arm_node.new.servers d.shared.log.events c.arm_node.new.log.events c.as_mut_slice.ensures.value a) refl refl refl)
     c.arm_node.ensures.ok
 
 pub returns-clause-played : goal.returns-clause-played
@@ -63,7 +64,7 @@ returns-clause-left g c =
     let h = d.shared.log.events in
     let h' = c.arm_node.new.log.events in
     three-err c.arm_node.result
-    (λ (leaves : (numbers : List ℕ) → CarriesCounts (AreMetered meter numbers xs h) (AreCounted meter numbers ys h')) (unchanged : IsTrue g.D.Disk.tells → NodesUnchanged image xs h ys) (still : h' ≡ h). λ b held.
+    (λ (leaves : (numbers : List ℕ) → CarriesCounts (AreMetered meter numbers xs h) (AreCounted meter numbers ys h')) (unchanged : IsTrue g.D.Disk.tells → NodesUnchanged image xs h ys) (still : h' ≡ h). uncut d _ _ c.requires.ready.journal (λ b held.
     let o = order-leaves d xs ys c.as_mut_slice.ensures.value b held h' still unchanged leaves in
-    inr (o.0, o.1, journal-still d _ refl refl b held.2 still, held.3))
+    inr (o.0, o.1, journal-still d _ refl refl b held.2 still, held.3, refused-none d.shared.export c.requires.ready.journal)))
     c.arm_node.ensures.left c.arm_node.ensures.unchanged c.arm_node.ensures.err

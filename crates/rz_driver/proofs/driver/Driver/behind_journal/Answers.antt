@@ -9,7 +9,7 @@ use Rattle.rz_nodes.specs.Formatted.{disks_of}
 use Rattle.rz_journal.specs.JournalText.{IsTextOf}
 use Rattle.rz_journal.specs.Stands.{IsShut}
 use Rattle.rz_metadata.specs.declared.metadata.Metadata.{Metadata}
-use Rattle.rz_metadata.specs.Stands.{export_in, is_journaled, Stands}
+use Rattle.rz_metadata.specs.Stands.{CountsFaults, IsJournalOpen, Stands, export_in, is_journaled}
 use Rattle.rz_driver.proofs.BehindJournal.{fault-is, journal-untouched}
 use Rattle.rz_driver.proofs.driver.Driver.behind_journal.Goals as goal
 
@@ -32,6 +32,8 @@ returns-in-Ok-format-clause-behind g c =
       shared = refl;
       export = ap export_in after ∙ made.export ∙ ap (λ (v : Volume). new_export v 0) c.in-Ok.ensures;
       journal = ap is_journaled after ∙ made.journal;
+      is_open = subst IsJournalOpen (sym after) made.open;
+      counted = subst (CountsFaults g.D.Disk.meter (faults (g.D.Disk.meter c.args.disk))) (sym after) made.counted;
       stands = subst (λ (m : Metadata g.row.D.Denot). Stands g.D.Disk.tells g.D.Disk.meter g.D.Disk.image (faults (g.D.Disk.meter c.args.disk)) m []) (sym after) made.stands;
     }
 

@@ -6,8 +6,8 @@ use Rattle.rz_nodes.proofs.FormatLemmas.{untouched}
 use Rattle.rz_driver_nodes.specs.Meters.{faults_at}
 use Rattle.rz_driver.specs.declared.driver.Driver.{Driver}
 use Rattle.rz_driver.specs.Formatted.{AreBackWithJournal, IsBehindJournal, IsJournalRefused}
-use Rattle.rz_driver.specs.Worlds.{anew, HoldsBetweenTurns}
-use Rattle.rz_driver.proofs.BehindJournal.{back-count, behind-holds, behind-made, behind-ready, behind-world, back-with, cause-with, front-count, has-last, refused-back, refused-cause}
+use Rattle.rz_driver.specs.Worlds.{HasCounted, anew, HoldsBetweenTurns}
+use Rattle.rz_driver.proofs.BehindJournal.{back-count, behind-counted, behind-holds, behind-made, behind-ready, behind-world, back-with, cause-with, front-count, has-last, refused-back, refused-cause}
 use Rattle.rz_driver.proofs.MadeLemmas.{as-many}
 use Rattle.rz_driver.proofs.driver.Driver.first.Goals as goal
 
@@ -69,6 +69,19 @@ returns-in-Ok-new-clause-held g c =
     IfOk-weaker c.behind_journal.result (λ e. IsBehindJournal journal d e) (λ e. HoldsBetweenTurns e (anew (faults_at g.D.Disk.meter c.args.disks.items)))
     (λ e behind. subst (λ (disks : List g.row.D.Denot). HoldsBetweenTurns e (anew (faults_at g.D.Disk.meter disks))) (sym c.in-Ok.ensures.split)
     (behind-holds journal d e behind v c.in-Ok-new.ensures.volume c.in-Ok-new.ensures.world nodes count c.in-Ok-new.ensures.held))
+    c.behind_journal.ensures.behind
+
+pub returns-in-Ok-new-clause-counted : goal.returns-in-Ok-new-clause-counted
+returns-in-Ok-new-clause-counted g c =
+    let d = c.in-Ok-new.driver in
+    let v = c.args.volume.now in
+    let nodes = c.in-Ok.nodes.items in
+    let journal = c.in-Ok.journal in
+    let n = length (nodes_of v.clusters) in
+    let count = front-count c.args.disks.items nodes journal n c.in-Ok.ensures.split c.requires.count in
+    IfOk-weaker c.behind_journal.result (λ e. IsBehindJournal journal d e) (λ e. HasCounted e (faults_at g.D.Disk.meter c.args.disks.items n))
+    (λ e behind. subst (λ (disks : List g.row.D.Denot). HasCounted e (faults_at g.D.Disk.meter disks n)) (sym c.in-Ok.ensures.split)
+    (behind-counted journal d e behind v c.in-Ok-new.ensures.volume c.in-Ok-new.ensures.world nodes count (behind-ready journal d e behind c.in-Ok-new.ensures.ready)))
     c.behind_journal.ensures.behind
 
 pub returns-in-Ok-new-clause-back : goal.returns-in-Ok-new-clause-back

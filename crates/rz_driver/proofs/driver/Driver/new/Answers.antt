@@ -41,7 +41,7 @@ returns-in-Ok-format_all-clause-made g c =
 pub returns-in-Ok-format_all-clause-ready : goal.returns-in-Ok-format_all-clause-ready
 returns-in-Ok-format_all-clause-ready g c =
     new-ready g.D.Disk.tells g.D.Disk.meter g.D.Disk.text g.D.Disk.image c.args.volume.now c.new_parts.ensures.rules c.args.disks.items c.requires.count _ c.in-Ok.ensures.volume (returns-in-Ok-format_all-clause-made g c)
-    c.in-Ok.ensures.agendas c.in-Ok.ensures.count c.in-Ok.ensures.bins c.new-locks.ensures
+    c.in-Ok.ensures.agendas c.in-Ok.ensures.count c.in-Ok.ensures.bins c.new-locks.ensures c.in-Ok-new_export.ensures.open
 
 pub returns-in-Ok-format_all-clause-world : goal.returns-in-Ok-format_all-clause-world
 returns-in-Ok-format_all-clause-world g c =

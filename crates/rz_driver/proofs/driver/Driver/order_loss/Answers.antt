@@ -15,6 +15,7 @@ use Rattle.rz_driver.proofs.DriverCoherence.{order-holds, order-leaves}
 use Rattle.rz_driver.proofs.JournalLemmas.{journal-ordered, journal-still, order-stays}
 use Rattle.rz_driver_nodes.proofs.CoherenceLemmas.{noted-grows, three-ok, three-err}
 use Rattle.rz_driver.proofs.NodeOrders.{admin-behind, called-of, ordered-in, called-ready, admin-call}
+use Rattle.rz_driver.proofs.Cuts.{refused-none, uncut}
 use Rattle.rz_driver.proofs.driver.Driver.order_loss.Goals as goal
 
 pub returns-clause-ready : goal.returns-clause-ready
@@ -23,7 +24,7 @@ returns-clause-ready g c =
     on_ok_weaker c.order_node.result
     (λ (o : IsOrderNoted ask.Lose c.args.sid c.as_mut_slice.result.now c.order_node.new.servers d.shared.log.events c.order_node.new.log.events).
     let there = ordered-in ask.Lose c.args.sid d.shared.servers c.as_mut_slice.result.now c.order_node.new.servers d.shared.log.events c.order_node.new.log.events c.as_mut_slice.ensures.value o in
-    called-ready d _ c.requires.ready refl refl c.args.sid (called-of ask.Lose c.args.sid _ _ _ _ there) refl refl)
+    called-ready d _ c.requires.ready refl refl c.args.sid (called-of ask.Lose c.args.sid _ _ _ _ there) refl refl refl)
     c.order_node.ensures.ok
 
 pub returns-clause-played : goal.returns-clause-played
@@ -64,7 +65,7 @@ returns-clause-left g c =
     let h = d.shared.log.events in
     let h' = c.order_node.new.log.events in
     three-err c.order_node.result
-    (λ (leaves : (numbers : List ℕ) → CarriesCounts (AreMetered meter numbers xs h) (AreCounted meter numbers ys h')) (unchanged : IsTrue g.D.Disk.tells → NodesUnchanged image xs h ys) (still : h' ≡ h). λ b held.
+    (λ (leaves : (numbers : List ℕ) → CarriesCounts (AreMetered meter numbers xs h) (AreCounted meter numbers ys h')) (unchanged : IsTrue g.D.Disk.tells → NodesUnchanged image xs h ys) (still : h' ≡ h). uncut d _ _ c.requires.ready.journal (λ b held.
     let o = order-leaves d xs ys c.as_mut_slice.ensures.value b held h' still unchanged leaves in
-    inr (o.0, o.1, journal-still d _ refl refl b held.2 still, held.3))
+    inr (o.0, o.1, journal-still d _ refl refl b held.2 still, held.3, refused-none d.shared.export c.requires.ready.journal)))
     c.order_node.ensures.left c.order_node.ensures.unchanged c.order_node.ensures.err

@@ -14,6 +14,7 @@ use Rattle.rz_driver.proofs.DriverCoherence.{order-holds, order-leaves}
 use Rattle.rz_driver.proofs.JournalLemmas.{journal-ordered, journal-still, started-stays}
 use Rattle.rz_driver_nodes.proofs.CoherenceLemmas.{both-ok, noted-grows, three-ok, three-err}
 use Rattle.rz_driver.proofs.NodeOrders.{admin-behind, ordered-in, started-in, called-in, called-ready, admin-call, free-start, start-over}
+use Rattle.rz_driver.proofs.Cuts.{refused-none, uncut}
 use Rattle.rz_driver.proofs.driver.Driver.order_start.Goals as goal
 
 pub returns-clause-ready : goal.returns-clause-ready
@@ -21,7 +22,7 @@ returns-clause-ready g c =
     let d = c.args.self.now in
     on_ok_weaker c.start_node.result
     (λ (k : IsCalledAt c.args.sid c.as_mut_slice.result.now c.start_node.new.servers).
-    called-ready d _ c.requires.ready refl refl c.args.sid (called-in c.args.sid d.shared.servers c.as_mut_slice.result.now c.start_node.new.servers c.as_mut_slice.ensures.value k) refl refl)
+    called-ready d _ c.requires.ready refl refl c.args.sid (called-in c.args.sid d.shared.servers c.as_mut_slice.result.now c.start_node.new.servers c.as_mut_slice.ensures.value k) refl refl refl)
     c.start_node.ensures.called
 
 pub returns-clause-played : goal.returns-clause-played
@@ -70,7 +71,7 @@ returns-clause-left g c =
     let h = d.shared.log.events in
     let h' = c.start_node.new.log.events in
     three-err c.start_node.result
-    (λ (leaves : (numbers : List ℕ) → CarriesCounts (AreMetered meter numbers xs h) (AreCounted meter numbers ys h')) (unchanged : IsTrue g.D.Disk.tells → NodesUnchanged image xs h ys) (still : h' ≡ h). λ b held.
+    (λ (leaves : (numbers : List ℕ) → CarriesCounts (AreMetered meter numbers xs h) (AreCounted meter numbers ys h')) (unchanged : IsTrue g.D.Disk.tells → NodesUnchanged image xs h ys) (still : h' ≡ h). uncut d _ _ c.requires.ready.journal (λ b held.
     let o = order-leaves d xs ys c.as_mut_slice.ensures.value b held h' still unchanged leaves in
-    inr (o.0, o.1, journal-still d _ refl refl b held.2 still, held.3))
+    inr (o.0, o.1, journal-still d _ refl refl b held.2 still, held.3, refused-none d.shared.export c.requires.ready.journal)))
     c.start_node.ensures.left c.start_node.ensures.unchanged c.start_node.ensures.err

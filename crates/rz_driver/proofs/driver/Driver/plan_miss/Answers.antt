@@ -1,4 +1,4 @@
-use Rattle.std.proofs.Common.{◌≡◌, ◌<◌, length, set, Some, refl, sym, ◌∙◌, ap, arith}
+use Rattle.std.proofs.Common.{◌≡◌, ◌<◌, inl, length, set, Some, refl, sym, ◌∙◌, ap, arith}
 use Rattle.std.specs.Prelude.{slice_get}
 use Rattle.std.proofs.lemmas.Option.{slice_get_read}
 use Rattle.rz_play.specs.World.{World}
@@ -12,6 +12,7 @@ use Rattle.rz_driver.proofs.OrderLemmas.{ordered, still-ready}
 use Rattle.rz_driver.proofs.ActorOrders.{place-low}
 use Rattle.rz_driver.proofs.DriverCoherence.{actor-coherence, works-with}
 use Rattle.rz_driver.proofs.JournalLemmas.{journal-stays}
+use Rattle.rz_driver.proofs.Cuts.{uncut}
 use Rattle.rz_driver.proofs.driver.Driver.plan_miss.Goals as goal
 
 pub returns-clause-ready : goal.returns-clause-ready
@@ -55,3 +56,6 @@ returns-clause-held g c = λ b met.
       journal-stays d _ refl refl b met.2 refl,
       met.3,
     )
+
+pub returns-in_default-clause-left : goal.returns-in_default-clause-left
+returns-in_default-clause-left g c = uncut c.args.self.now c.args.self.now _ c.requires.ready.journal (λ b held. inl (held, refl))

@@ -14,6 +14,9 @@ returns-in-Op-clause-volume g c = c.add_operation.ensures.volume
 pub returns-in-Op-clause-journal : goal.returns-in-Op-clause-journal
 returns-in-Op-clause-journal g c = c.add_operation.ensures.journal
 
+pub returns-in-Op-clause-faults : goal.returns-in-Op-clause-faults
+returns-in-Op-clause-faults g c = c.add_operation.ensures.faults
+
 pub returns-in-Op-clause-ready : goal.returns-in-Op-clause-ready
 returns-in-Op-clause-ready g c = c.add_operation.ensures.ready
 
@@ -45,6 +48,9 @@ returns-in-Miss-clause-volume g c = c.plan_miss.ensures.volume
 
 pub returns-in-Miss-clause-journal : goal.returns-in-Miss-clause-journal
 returns-in-Miss-clause-journal g c = c.plan_miss.ensures.journal
+
+pub returns-in-Miss-clause-faults : goal.returns-in-Miss-clause-faults
+returns-in-Miss-clause-faults g c = c.plan_miss.ensures.faults
 
 pub returns-in-Miss-clause-ready : goal.returns-in-Miss-clause-ready
 returns-in-Miss-clause-ready g c = c.plan_miss.ensures.ready
@@ -78,6 +84,9 @@ returns-in-Stop-clause-volume g c = c.order_stop.ensures.volume
 pub returns-in-Stop-clause-journal : goal.returns-in-Stop-clause-journal
 returns-in-Stop-clause-journal g c = c.order_stop.ensures.journal
 
+pub returns-in-Stop-clause-faults : goal.returns-in-Stop-clause-faults
+returns-in-Stop-clause-faults g c = c.order_stop.ensures.faults
+
 pub returns-in-Stop-clause-ready : goal.returns-in-Stop-clause-ready
 returns-in-Stop-clause-ready g c = c.order_stop.ensures.ready
 
@@ -109,6 +118,9 @@ returns-in-Start-clause-volume g c = c.order_start.ensures.volume
 
 pub returns-in-Start-clause-journal : goal.returns-in-Start-clause-journal
 returns-in-Start-clause-journal g c = c.order_start.ensures.journal
+
+pub returns-in-Start-clause-faults : goal.returns-in-Start-clause-faults
+returns-in-Start-clause-faults g c = c.order_start.ensures.faults
 
 pub returns-in-Start-clause-ready : goal.returns-in-Start-clause-ready
 returns-in-Start-clause-ready g c = c.order_start.ensures.ready
@@ -142,6 +154,9 @@ returns-in-Lose-clause-volume g c = c.order_loss.ensures.volume
 pub returns-in-Lose-clause-journal : goal.returns-in-Lose-clause-journal
 returns-in-Lose-clause-journal g c = c.order_loss.ensures.journal
 
+pub returns-in-Lose-clause-faults : goal.returns-in-Lose-clause-faults
+returns-in-Lose-clause-faults g c = c.order_loss.ensures.faults
+
 pub returns-in-Lose-clause-ready : goal.returns-in-Lose-clause-ready
 returns-in-Lose-clause-ready g c = c.order_loss.ensures.ready
 
@@ -173,6 +188,9 @@ returns-in-Break-clause-volume g c = c.arm.ensures.volume
 
 pub returns-in-Break-clause-journal : goal.returns-in-Break-clause-journal
 returns-in-Break-clause-journal g c = c.arm.ensures.journal
+
+pub returns-in-Break-clause-faults : goal.returns-in-Break-clause-faults
+returns-in-Break-clause-faults g c = c.arm.ensures.faults
 
 pub returns-in-Break-clause-ready : goal.returns-in-Break-clause-ready
 returns-in-Break-clause-ready g c = c.arm.ensures.ready

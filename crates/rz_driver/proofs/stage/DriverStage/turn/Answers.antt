@@ -12,6 +12,9 @@ returns-clause-volume g c = c.take_turn.ensures.volume
 pub returns-clause-journal : goal.returns-clause-journal
 returns-clause-journal g c = c.take_turn.ensures.journal
 
+pub returns-clause-faults : goal.returns-clause-faults
+returns-clause-faults g c = c.take_turn.ensures.faults
+
 pub returns-clause-ready : goal.returns-clause-ready
 returns-clause-ready g c = c.take_turn.ensures.ready
 

@@ -7,7 +7,7 @@ pub returns-then-wants_memory-clause-left : goal.returns-then-wants_memory-claus
 returns-then-wants_memory-clause-left g c = λ first calls kept.
     let r = c.in-Reply.reply in
     left-wanting g.D.Disk.tells g.D.Disk.meter g.D.Disk.image first c.args.self.now.journal c.answer_ref.new.self (call_of c.args.ask) calls c.args.self.now.refusal r
-    (is-wanting r (sym c.wants_memory.ensures ∙ c.if-wants_memory.true)) (c.in-Reply.ensures.calls calls) c.in-Reply.ensures.replied kept
+    (is-wanting r (sym c.wants_memory.ensures ∙ c.if-wants_memory.true)) c.in-Reply.ensures.answered c.answer_ref.ensures.meter (c.in-Reply.ensures.calls calls) c.in-Reply.ensures.replied kept
 
 pub returns-in-Full-clause-left : goal.returns-in-Full-clause-left
 returns-in-Full-clause-left g c = λ first calls kept.

@@ -3,7 +3,7 @@ use Rattle.rz_events.specs.declared.export.Call.{Call}
 use Rattle.rz_journal.specs.Seen.{calls_after}
 use Rattle.rz_events.specs.Borrowed.{call_of}
 use Rattle.rz_metadata.specs.declared.metadata.Metadata.{Metadata}
-use Rattle.rz_metadata.specs.Stands.{export_in, IsJournalKept, Stands}
+use Rattle.rz_metadata.specs.Stands.{CountsFaults, CountsOn, IsJournalOpen, IsJournalKept, Stands, export_in}
 use Rattle.rz_metadata.proofs.MetadataReplies.{volume-kept}
 use Rattle.rz_metadata.proofs.metadata.Metadata.reply.Goals as goal
 
@@ -17,3 +17,8 @@ pub returns-in-InMemory-clause-volume : goal.returns-in-InMemory-clause-volume
 returns-in-InMemory-clause-volume g c =
     volume-kept c.in-InMemory.export c.reply_to.new.export (call_of c.args.ask) c.reply_to.result c.reply_to.ensures.after c.reply_to.ensures.err
     ∙ ap (λ (m : Metadata g.row.D.Denot). (export_in m).volume) (sym c.in-InMemory.is)
+
+pub returns-in-Journaled-clause-counted : goal.returns-in-Journaled-clause-counted
+returns-in-Journaled-clause-counted g c =
+    let meter = g.D.Disk.meter in
+    subst (λ (m : Metadata g.row.D.Denot). IsJournalOpen m → (first : ℕ) → CountsFaults meter first m → CountsOn {D = g.row.D.Denot} meter first c.reply.new.self) (sym c.in-Journaled.is) c.reply.ensures.counted
