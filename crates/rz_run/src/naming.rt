@@ -1,7 +1,7 @@
 //! The name of the book of a run, which is known once the book is there.
 
 use rz_chronicle::Naming;
-use rz_shared::Counting;
+use rz_shared::{Counting, Metering};
 use std::marker::{Brand, PhantomData};
 
 /// What the name of a new book says: of the book itself, and of the faults that the disk of each node had
@@ -54,10 +54,12 @@ impl<K: Named> Naming for NewName<K> {
     ghost earlier = { [] };
 }
 
+impl<K: Named> Metering for NewName<K> {
+    ghost first = { K.first };
+}
+
 impl<K: Named> Counting for NewName<K> {
     ghost use Rattle.std.specs.Prelude.{refl};
-
-    ghost first = { K.first };
 
     ghost anew = { refl };
 }

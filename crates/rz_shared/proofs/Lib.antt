@@ -1,3 +1,4 @@
+pub mod Alone
 pub mod Pairs
 pub mod Readiness
 pub mod Returning

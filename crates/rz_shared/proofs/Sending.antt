@@ -34,7 +34,7 @@ use Rattle.rz_export.proofs.nodes.KeptNode.TheSendSync as KeptNode
 use Rattle.rz_export.specs.contracts.export.Export as Export
 use Rattle.rz_chronicle.specs.declared.passes.Naming as Naming
 use Rattle.rz_chronicle.proofs.passes.WordToken.TheSendSync as Post
-use Rattle.rz_shared_locked.specs.declared.counting.Counting as Counting
+use Rattle.rz_shared_locked.specs.declared.counting.Metering as Metering
 use Rattle.rz_shared_locked.specs.contracts.locked_node.LockedNode as Seat
 use Rattle.rz_shared_locked.specs.contracts.locked_node.LockedNode.TheInside as SeatIn
 use Rattle.rz_shared_locked.specs.contracts.locked_export.LockedExport as Office
@@ -65,14 +65,14 @@ blocks-send = search (marks-send, Key.the_send, Block.the_send, maps.crosses, cr
 export-send : IsSend Export.the_row
 export-send = search (tree-send, blocks-send, marks-send, Volume.the_send, KeptNode.the_send, crosses, sendable) depth 60 fits 20000
 
-locked_export-send : (J : RattleType) (c : Counting.Ghosts J.Denot) (n : Naming.Ghosts J.Denot) → IsSend (Office.the_row J c n)
+locked_export-send : (J : RattleType) (c : Metering.Ghosts J.Denot) (n : Naming.Ghosts J.Denot) → IsSend (Office.the_row J c n)
 locked_export-send J c n = view_send (OfficeIn.the_row J c n) _ _ _ _ (recorded_send (OfficeIn.the_field J c n).row _ _ (OfficeIn.the_type J c n).to_one (struct_send (shape (OfficeIn.the_type J c n)) (Heap.the_field_send, (export-send, (Post.the_send J n, tt)))))
 
-module _ (D J : RattleType) (g : Disk.Ghosts D.Denot) (c : Counting.Ghosts J.Denot) (n : Naming.Ghosts J.Denot) (s : IsSend D) where
+module _ (D J : RattleType) (g : Disk.Ghosts D.Denot) (c : Metering.Ghosts J.Denot) (n : Naming.Ghosts J.Denot) (s : IsSend D) where
   locked_node-send : IsSend (Seat.the_row D J g c n)
   locked_node-send = view_send (SeatIn.the_row D J g c n) _ _ _ _ (recorded_send (SeatIn.the_field D J g c n).row _ _ (SeatIn.the_type D J g c n).to_one (struct_send (shape (SeatIn.the_type D J g c n)) (Heap.the_field_send, (plain_send _ _ _ _ _, (node-send D g s, (plain_send _ _ _ _ _, (Option.the_field_send u64 (plain_send _ _ _ _ _), (Post.the_send J n, tt))))))))
 
-module _ (D J : RattleType) (g : Disk.Ghosts D.Denot) (c : Counting.Ghosts J.Denot) (n : Naming.Ghosts J.Denot) (s : IsSend D) where
+module _ (D J : RattleType) (g : Disk.Ghosts D.Denot) (c : Metering.Ghosts J.Denot) (n : Naming.Ghosts J.Denot) (s : IsSend D) where
   room-send : IsSend (Room.the_row D J g c n)
   room-send = view_send (RoomIn.the_row D J g c n) _ _ _ _ (recorded_send (RoomIn.the_field D J g c n).row _ _ (RoomIn.the_type D J g c n).to_one (struct_send (shape (RoomIn.the_type D J g c n)) (Vec-send _ (locked_node-send _ J _ c n (Fused.the_send D g s)), (Vec-send D s, (Vec-send _ (Post.the_send J n), tt)))))
 

@@ -6,17 +6,17 @@ ghost use Rattle.rz_events.specs.declared.events.Word.TheVariants as w;
 ghost use Rattle.rz_events.specs.Volume.{nodes_of};
 ghost use Rattle.rz_chronicle.specs.Keys.{sids_of, word_key};
 ghost use Rattle.rz_shared_locked.specs.LockedNodes.{LockedNodeView};
-ghost use Rattle.rz_shared.specs.Returned.{IsReturned};
+ghost use Rattle.rz_shared.specs.Returned.{IsReturned, IsReturnedAfter};
 
 use crate::arranging::arrange;
 use crate::cluster::Cluster;
-use crate::{Counting, LockedNode};
+use crate::{Counting, LockedNode, Metering};
 use rz_chronicle::{Desk, WordToken};
 use rz_disk::{Disk, Fused};
 use std::sync::Mutex;
 
 /// Takes each locked node out of its lock.
-fn unlock_all<D: Disk, J: Counting>(
+fn unlock_all<D: Disk, J: Metering>(
     locks: Vec<Mutex<LockedNode<Fused<D>, J>>>,
     room: Vec<LockedNode<Fused<D>, J>>,
 ) -> Vec<LockedNode<Fused<D>, J>>
@@ -32,7 +32,7 @@ fn unlock_all<D: Disk, J: Counting>(
 }
 
 /// Takes each disk out of its fuse, and each token of a node's word out of its locked node, in their order.
-fn empty_all<D: Disk, J: Counting>(
+fn empty_all<D: Disk, J: Metering>(
     locked_nodes: Vec<LockedNode<Fused<D>, J>>,
     disks: Vec<D>,
     word_tokens: Vec<WordToken<J>>,
@@ -41,28 +41,28 @@ fn empty_all<D: Disk, J: Counting>(
     requires word_tokens { (vec_len word_tokens ≡ 0) × (vec_len locked_nodes ≤ vec_capacity word_tokens) }
     ensures count { length result.0.items ≡ vec_len locked_nodes }
     ensures words { map (λ p. p.word) result.1.items ≡ map (λ (s : LockedNodeView). w.Node s.node) locked_nodes.items }
-    ensures returned { AllZip (IsReturned D.meter D.image J.kind J.first) result.0.items result.1.items }
+    ensures returned { AllZip (IsReturnedAfter D.meter D.image J.kind J.earlier J.first) result.0.items result.1.items }
 {
     let mut locked_nodes = locked_nodes;
     let mut disks = disks;
     let mut word_tokens = word_tokens;
     locked_nodes.reverse();
     while let Some(locked_node) = locked_nodes.pop() {
-        let (disk, word_token) = locked_node.close();
+        let (disk, word_token) = locked_node.close_after();
         disks.push_reserved(disk.into_inner());
         word_tokens.push_reserved(word_token);
     }
     (disks, word_tokens)
 }
 
-impl<D: Disk, J: Counting> Cluster<D, J> {
+impl<D: Disk, J: Metering> Cluster<D, J> {
     /// The disks, each beside the token of its node's word, and the token of the export's. Both stand in
     /// the order of the description, since no two tokens are of one word. The faults of a word are those
     /// that its disk counted since the cluster was made.
-    pub fn close(self) -> (Vec<D>, Desk<J>)
+    pub fn close_after(self) -> (Vec<D>, Desk<J>)
         ensures count { length result.0.items ≡ length (nodes_of self.clusters) }
         ensures export { result.1.export.word ≡ w.Export }
-        ensures returned { AllZip (IsReturned D.meter D.image J.kind J.first) result.0.items result.1.nodes.items }
+        ensures returned { AllZip (IsReturnedAfter D.meter D.image J.kind J.earlier J.first) result.0.items result.1.nodes.items }
         ensures order { IsDistinct nat_eq (map (λ p. word_key p.word) result.1.nodes.items) → map (λ p. p.word) result.1.nodes.items ≡ map w.Node (sids_of self) }
     {
         let Cluster {
@@ -77,5 +77,19 @@ impl<D: Disk, J: Counting> Cluster<D, J> {
         let _all = arrange(&mut locked_nodes, nodes.as_slice());
         let (disks, nodes) = empty_all(locked_nodes, room.disks, room.word_tokens);
         (disks, Desk { export, nodes })
+    }
+}
+
+impl<D: Disk, J: Counting> Cluster<D, J> {
+    /// The disks, each beside the token of its node's word, and the token of the export's. Both stand in
+    /// the order of the description, since no two tokens are of one word. The faults of a word are those
+    /// that its disk counted since the cluster was made.
+    pub fn close(self) -> (Vec<D>, Desk<J>)
+        ensures count { length result.0.items ≡ length (nodes_of self.clusters) }
+        ensures export { result.1.export.word ≡ w.Export }
+        ensures returned { AllZip (IsReturned D.meter D.image J.kind J.first) result.0.items result.1.nodes.items }
+        ensures order { IsDistinct nat_eq (map (λ p. word_key p.word) result.1.nodes.items) → map (λ p. p.word) result.1.nodes.items ≡ map w.Node (sids_of self) }
+    {
+        self.close_after()
     }
 }

@@ -1,5 +1,5 @@
 //! The cluster and its calls.
-ghost use Rattle.std.specs.Prelude.{◌≡◌, ◌+◌, ◌<◌, ◌^◌, IsTrue, drop, length, map};
+ghost use Rattle.std.specs.Prelude.{◌≡◌, ◌+◌, ◌<◌, ◌^◌, ◌++◌, IsTrue, drop, length, map};
 ghost use Rattle.mj_angles.specs.Layout.{max_bins_of};
 ghost use Rattle.rz_events.specs.declared.files.NodeSpec.{NodeSpec as ANodeSpec};
 ghost use Rattle.rz_events.specs.declared.events.Word.TheVariants as w;
@@ -14,13 +14,14 @@ ghost use Rattle.rz_core.specs.History.{facts, of_actor};
 ghost use Rattle.rz_core.specs.NodeRows.{IsNodeOf};
 ghost use Rattle.rz_core.specs.Tied.{IsProperCall};
 ghost use Rattle.rz_chronicle.specs.Keys.{count_at, word_key};
-ghost use Rattle.rz_chronicle.specs.Kinds.{IsFit, MayCome, is_honest, volume_in};
+ghost use Rattle.rz_chronicle.specs.Kinds.{IsFit, MayCome, is_honest, keeps_legal, volume_in};
 ghost use Rattle.rz_chronicle.specs.Holds.{Commits};
-ghost use Rattle.rz_shared_locked.specs.LockedNodes.{MayAsk, IsAskerRight, Answered, IsTrueRecord};
-ghost use Rattle.rz_shared_locked.specs.LockedExports.{AreBytes, Replied};
+ghost use Rattle.rz_shared_locked.specs.Adding.{MayBeNext};
+ghost use Rattle.rz_shared_locked.specs.LockedNodes.{MayAsk, IsAskerRight, Answered, AnsweredAfter, IsTrueRecord};
+ghost use Rattle.rz_shared_locked.specs.LockedExports.{AreBytes, Replied, RepliedAfter};
 
 use crate::room::ClosingRoom;
-use crate::{Counting, LockedExport, LockedNode};
+use crate::{Counting, LockedExport, LockedNode, Metering};
 use rz_chronicle::{Book, Pass};
 use rz_disk::{Disk, Fused};
 use rz_events::{Actor, Call, CallRef, Event, NodeAnswer, NodeAsk, NodeSpec, Reply};
@@ -30,7 +31,7 @@ use std::sync::{Mutex, Wait};
 /// The nodes of a volume in the order of the description, each behind its lock, and the export behind its
 /// own. Each disk is in a fuse.
 #[derive(Drop)]
-pub struct Cluster<D: Disk, J: Counting> {
+pub struct Cluster<D: Disk, J: Metering> {
     pub(crate) nodes: Vec<NodeSpec>,
     pub(crate) locked_nodes: Vec<Mutex<LockedNode<Fused<D>, J>>>,
     pub(crate) locked_export: Mutex<LockedExport<J>>,
@@ -38,7 +39,7 @@ pub struct Cluster<D: Disk, J: Counting> {
     pub(crate) room: Mutex<ClosingRoom<D, J>>,
 }
 
-impl<D: Disk, J: Counting> Model for Cluster<D, J> {
+impl<D: Disk, J: Metering> Model for Cluster<D, J> {
     ghost use Rattle.std.specs.Prelude.{◌≡◌, length, nat_eq};
     ghost use Rattle.std.specs.List.{IsDistinct};
     ghost use Rattle.std.specs.Vec.{vec_len};
@@ -67,7 +68,7 @@ fn place_of(nodes: &[NodeSpec], number: u16) -> usize
     place
 }
 
-impl<D: Disk, J: Counting> Cluster<D, J> {
+impl<D: Disk, J: Metering> Cluster<D, J> {
     // The lock at the place of a node.
     fn locked_node(&self, node: u16) -> &Mutex<LockedNode<Fused<D>, J>>
         requires { IsNodeOf (volume_in J.kind) node }
@@ -75,6 +76,96 @@ impl<D: Disk, J: Counting> Cluster<D, J> {
         &self.locked_nodes[place_of(self.nodes.as_slice(), node)]
     }
 
+    /// Takes the lock of a node, calls it, and adds the event of its answer to the log. It does not return
+    /// where the node's word cannot move.
+    pub fn node_call_after<R: Wait>(
+        &self,
+        rt: &R,
+        book: &Book<J>,
+        pass: &mut Pass<J>,
+        node: u16,
+        ask: &NodeAsk,
+        bins: &mut [u64],
+    ) -> NodeAnswer
+        requires node { IsNodeOf (volume_in J.kind) node }
+        requires takes { Takes (volume_in J.kind).layout ask.now bins.old }
+        requires actor { IsAskerRight pass.old.actor ask.now }
+        requires may { IsTrue (keeps_legal J.kind) → MayAsk (volume_in J.kind) (pass.old.log ++ J.earlier) pass.old.actor node ask.now bins.old }
+        ensures same { (pass.new.actor ≡ pass.old.actor) × (pass.new.keys ≡ pass.old.keys) }
+        ensures answered { AnsweredAfter J.kind J.earlier node ask.now result (node_event pass.old.actor node ask.now result) pass.old.keys pass.old.log pass.new.log }
+        ensures read { IsTrue (keeps_legal J.kind) → IsTrueRecord (volume_in J.kind) (facts (pass.new.log ++ J.earlier)) node ask.now result bins.old bins.new }
+
+        // The caller's bins are written where a record was read, and not behind the most bins that one has.
+        ensures unread { IsUnread result → bins.new ≡ bins.old }
+        ensures rest { drop (max_bins_of (volume_in J.kind).layout) bins.new ≡ drop (max_bins_of (volume_in J.kind).layout) bins.old }
+
+        ensures fit { IsFit J.kind pass.new.log }
+    {
+        let locked_node = self.locked_node(node);
+        locked_node
+            .lock(rt)
+            .call_after(rt, book, pass, node, ask, bins)
+    }
+
+    /// Takes the export's lock, calls it by a borrowed call, and adds the event of its reply to the log. It
+    /// does not return where the export does not take the call, which it does in a book that keeps its log
+    /// legal, or where its word cannot move.
+    pub fn export_call_after<R: Wait>(
+        &self,
+        rt: &R,
+        book: &Book<J>,
+        pass: &mut Pass<J>,
+        call: CallRef<'_>,
+    ) -> Reply
+        requires actor { ¬ (pass.old.actor ≡ Actor.Admin) }
+        requires may { IsTrue (keeps_legal J.kind) → IsProperCall (volume_in J.kind) (facts (pass.old.log ++ J.earlier)) (of_actor pass.old.actor (pass.old.log ++ J.earlier)) pass.old.actor (call_of call) }
+        ensures same { (pass.new.actor ≡ pass.old.actor) × (pass.new.keys ≡ pass.old.keys) }
+        ensures replied { RepliedAfter J.kind J.earlier (call_of call.entry) result (export_event pass.old.actor (call_of call.entry) result) pass.old.keys pass.old.log pass.new.log }
+        ensures bytes { AreBytes pass.new.log }
+        ensures fit { IsFit J.kind pass.new.log }
+    {
+        self.locked_export.lock(rt).call_after(rt, book, pass, call)
+    }
+
+    /// Adds an event of the caller's own word. It waits for nobody.
+    pub fn finish_after(&self, book: &Book<J>, pass: &mut Pass<J>, event: &Event)
+        requires member { ¬ (pass.old.actor ≡ Actor.Admin) }
+        requires word { word_of event.now ≡ w.Own pass.old.actor }
+        requires actor { by_of event.now ≡ pass.old.actor }
+        requires legal { MayBeNext J.kind J.earlier pass.old.log event.now }
+        requires room { count_at (word_key (w.Own pass.old.actor)) pass.old.log + 1 < 2 ^ 64 }
+        ensures same { (pass.new.actor ≡ pass.old.actor) × (pass.new.keys ≡ pass.old.keys) }
+        ensures commits { Commits pass.old.keys pass.old.log event.now pass.new.log }
+        ensures fit { IsFit J.kind pass.new.log }
+    {
+        rz_chronicle::one_rule();
+        let _by = pass.actor();
+        book.finish(pass, event);
+    }
+
+    /// Takes the lock of a node, arms the fuse of its disk with `passes`, keeps how its next crash picks,
+    /// and adds that to the log. It does not return where the node's word cannot move.
+    pub fn arm<R: Wait>(
+        &self,
+        rt: &R,
+        book: &Book<J>,
+        pass: &mut Pass<J>,
+        node: u16,
+        passes: u64,
+        pick: u64,
+    )
+        requires node { IsNodeOf (volume_in J.kind) node }
+        requires actor { pass.old.actor ≡ Actor.Admin }
+        ensures same { (pass.new.actor ≡ pass.old.actor) × (pass.new.keys ≡ pass.old.keys) }
+        ensures commits { Commits pass.old.keys pass.old.log (e.Armed node passes pick) pass.new.log }
+        ensures fit { IsFit J.kind pass.new.log }
+    {
+        let locked_node = self.locked_node(node);
+        locked_node.lock(rt).arm(rt, book, pass, node, passes, pick);
+    }
+}
+
+impl<D: Disk, J: Counting> Cluster<D, J> {
     /// Takes the lock of a node, calls it, and adds the event of its answer to the log. It does not return
     /// where the node's word cannot move.
     pub fn node_call<R: Wait>(
@@ -153,29 +244,7 @@ impl<D: Disk, J: Counting> Cluster<D, J> {
         ensures commits { Commits pass.old.keys pass.old.log event.now pass.new.log }
         ensures fit { IsFit J.kind pass.new.log }
     {
-        rz_chronicle::begins_anew();
         let _by = pass.actor();
-        book.finish(pass, event);
-    }
-
-    /// Takes the lock of a node, arms the fuse of its disk with `passes`, keeps how its next crash picks,
-    /// and adds that to the log. It does not return where the node's word cannot move.
-    pub fn arm<R: Wait>(
-        &self,
-        rt: &R,
-        book: &Book<J>,
-        pass: &mut Pass<J>,
-        node: u16,
-        passes: u64,
-        pick: u64,
-    )
-        requires node { IsNodeOf (volume_in J.kind) node }
-        requires actor { pass.old.actor ≡ Actor.Admin }
-        ensures same { (pass.new.actor ≡ pass.old.actor) × (pass.new.keys ≡ pass.old.keys) }
-        ensures commits { Commits pass.old.keys pass.old.log (e.Armed node passes pick) pass.new.log }
-        ensures fit { IsFit J.kind pass.new.log }
-    {
-        let locked_node = self.locked_node(node);
-        locked_node.lock(rt).arm(rt, book, pass, node, passes, pick);
+        self.finish_after(book, pass, event);
     }
 }

@@ -6,21 +6,28 @@
 //! honest book all calls stand in one legal log, and each answer is right for that log just before its
 //! event. Which book a cluster belongs to is its type parameter.
 //!
+//! A cluster is new, and its log begins anew; or its nodes and its export were opened, and its log goes on
+//! after an earlier one, which stands behind the events of this run. The calls whose names end in `after`
+//! are of any such cluster. The others are of one whose log begins anew, and say the same of the events of
+//! this run alone.
+//!
 //! No contract says which node stands behind which lock: a call of a lock that has another node than the
 //! one that was asked waits for ever. At the end each disk comes back beside the token of its own node, in
 //! the order of the description.
 //!
-//! In reading order: `room`, `seating`, `cluster`, `making`, `arranging`, `closing`.
+//! In reading order: `room`, `seating`, `cluster`, `making`, `resuming`, `arranging`, `closing`.
 #![tactic(auto)]
 
 mod arranging;
 mod closing;
 mod cluster;
 mod making;
+mod resuming;
 mod room;
 mod seating;
 
 pub use cluster::Cluster;
+pub use resuming::OpenedParts;
 pub use rz_node::answer_node;
 pub use rz_nodes::DriverFault;
-pub use rz_shared_locked::{Counting, LockedExport, LockedNode, answer_export};
+pub use rz_shared_locked::{Counting, LockedExport, LockedNode, Metering, answer_export};

@@ -14,7 +14,7 @@ ghost use Rattle.rz_nodes.specs.Formatted.{AreBack, IsCause};
 use crate::cluster::Cluster;
 use crate::room::ClosingRoom;
 use crate::seating::locked_node_all;
-use crate::{Counting, LockedExport, LockedNode};
+use crate::{Counting, LockedExport, LockedNode, Metering};
 use mj_angles::Layout;
 use rz_chronicle::{Book, Desk};
 use rz_config::Volume;
@@ -28,7 +28,7 @@ use std::sync::Mutex;
 /// The layout of a volume, its nodes in order, an export of it, and room for the locks and for what they
 /// hold.
 #[derive(Drop)]
-struct ClusterParts<D: Disk, J: Counting> {
+struct ClusterParts<D: Disk, J: Metering> {
     layout: Layout,
     nodes: Vec<NodeSpec>,
     export: Export,
@@ -37,7 +37,7 @@ struct ClusterParts<D: Disk, J: Counting> {
 }
 
 /// What a new cluster has beside its disks.
-fn new_parts<D: Disk, J: Counting>(
+fn new_parts<D: Disk, J: Metering>(
     alloc: Global,
     volume: Volume,
 ) -> Result<ClusterParts<D, J>, AllocError>
@@ -73,7 +73,7 @@ fn new_parts<D: Disk, J: Counting>(
 }
 
 /// Empty rows with room for so many locks, and for what they hold.
-fn empty_rows<D: Disk, J: Counting>(
+pub(crate) fn empty_rows<D: Disk, J: Metering>(
     alloc: Global,
     count: usize,
 ) -> Result<
@@ -115,7 +115,10 @@ impl<D: Disk, J: Counting> Cluster<D, J> {
         ensures back { IfErr result (λ r. AreBack D.tells D.meter D.image volume.layout (nodes_of volume.clusters) disks.items r.0.items) }
         ensures cause { IfErr result (λ r. IsCause D.meter disks.items r.0.items r.1) }
     {
+        rz_log_laws::beginning();
+        rz_node_laws::fresh::<Fused<D>>();
         let _ = book;
+        let _fit = desk.export.room();
         let Ok(parts) = new_parts::<D, J>(alloc, volume) else {
             drop(desk);
             return Err((disks, DriverFault::NoMemory));

@@ -4,7 +4,7 @@ ghost use Rattle.std.specs.Vec.{vec_len, vec_capacity};
 ghost use Rattle.rz_events.specs.Volume.{nodes_of};
 ghost use Rattle.rz_chronicle.specs.Kinds.{volume_in};
 
-use crate::{Counting, LockedNode};
+use crate::{LockedNode, Metering};
 use rz_chronicle::WordToken;
 use rz_disk::{Disk, Fused};
 use std::marker::Model;
@@ -12,13 +12,13 @@ use std::marker::Model;
 /// Empty vectors with room for each node of the volume. They stand behind a lock themselves, so that
 /// threads can share a cluster.
 #[derive(Drop)]
-pub(crate) struct ClosingRoom<D: Disk, J: Counting> {
+pub(crate) struct ClosingRoom<D: Disk, J: Metering> {
     pub(crate) locked_nodes: Vec<LockedNode<Fused<D>, J>>,
     pub(crate) disks: Vec<D>,
     pub(crate) word_tokens: Vec<WordToken<J>>,
 }
 
-impl<D: Disk, J: Counting> Model for ClosingRoom<D, J> {
+impl<D: Disk, J: Metering> Model for ClosingRoom<D, J> {
     ghost use Rattle.std.specs.Prelude.{◌≡◌, ◌≤◌, length};
     ghost use Rattle.std.specs.Vec.{vec_len, vec_capacity};
     ghost use Rattle.rz_events.specs.Volume.{Volume, nodes_of};
@@ -33,7 +33,7 @@ impl<D: Disk, J: Counting> Model for ClosingRoom<D, J> {
         × (vec_len r.word_tokens ≡ 0) × (length (nodes_of (volume_in J.kind).clusters) ≤ vec_capacity r.word_tokens) };
 }
 
-impl<D: Disk, J: Counting> ClosingRoom<D, J> {
+impl<D: Disk, J: Metering> ClosingRoom<D, J> {
     /// The room that these vectors give.
     pub(crate) fn of(
         locked_nodes: Vec<LockedNode<Fused<D>, J>>,

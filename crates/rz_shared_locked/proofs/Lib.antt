@@ -1,4 +1,5 @@
 mod Logs
+mod Behind
 mod Lasting
 mod LockedExportLaws
 mod Events
@@ -6,6 +7,6 @@ mod Disks
 mod LockedNodes
 mod Replies
 mod LockedExports
-mod Metering
+mod Meters
 mod Picks
 mod Texts

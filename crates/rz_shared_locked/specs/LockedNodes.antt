@@ -1,5 +1,5 @@
 -- A node under its lock: what it is by the log, what a caller must have done, and what a call adds to the log.
-use Rattle.std.specs.Prelude.{ℕ, ◌≡◌, IsTrue, List, Option}
+use Rattle.std.specs.Prelude.{ℕ, ◌≡◌, IsTrue, List, ◌++◌, Option}
 use Rattle.rz_events.specs.Volume.{Volume}
 use Rattle.rz_events.specs.declared.keys.Actor.{Actor}
 use Rattle.rz_events.specs.declared.keys.Actor.TheVariants.{Admin}
@@ -20,7 +20,7 @@ use Rattle.rz_node_laws.specs.Records.{HandsRecord}
 use Rattle.rz_node_laws.specs.Images.{AreImages, IsImaged, geometry_in}
 use Rattle.rz_node_laws.specs.Laws.{IsReadBack}
 use Rattle.rz_chronicle.specs.Keys.{IsLater, events_at, word_key}
-use Rattle.rz_chronicle.specs.Kinds.{is_honest, volume_in}
+use Rattle.rz_chronicle.specs.Kinds.{is_honest, keeps_legal, volume_in}
 use Rattle.rz_shared_locked.specs.Adding.{Adds}
 
 -- what contracts see of a locked node: its node's number, and the log in which its word moved last
@@ -63,6 +63,22 @@ pub record IsAnswerAt (kind : List ℕ) (h : List Event) (n : ℕ) (question : N
 pub record Answered (kind : List ℕ) (n : ℕ) (question : NodeAsk) (given : NodeAnswer) (event : Option Event) (ks : List ℕ) (old new : List Event) : Type 0 where
   pub adds : Adds ks old event new
   pub right : IsAnswerAt kind adds.before n question given
+
+-- The same in a book that goes on after an earlier log, which stands behind the log of this run.
+
+abbrev pub AreImagesAfter : Volume → List Event → List Event → ℕ → (List ℕ → Type 0) → Type 0
+AreImagesAfter v earlier h n image = (new : List Event) → IsLater h new → events_at (word_key (Node n)) new ≡ events_at (word_key (Node n)) h
+    → AreImages v (facts (new ++ earlier)) (of_word (Node n) (new ++ earlier)) n (geometry_in v n) image
+
+pub record IsAnswerAfter (kind : List ℕ) (earlier h : List Event) (n : ℕ) (question : NodeAsk) (given : NodeAnswer) : Type 0 where
+  pub state : NodeState
+  pub is : IsNodeAnswer (cells_of (volume_in kind) n) state question given
+  pub tied : IsTrue (keeps_legal kind) → IsNode (facts (h ++ earlier)) (of_word (Node n) (h ++ earlier)) state
+  pub opening : IsTrue (keeps_legal kind) → IsOpening given
+
+pub record AnsweredAfter (kind : List ℕ) (earlier : List Event) (n : ℕ) (question : NodeAsk) (given : NodeAnswer) (event : Option Event) (ks : List ℕ) (old new : List Event) : Type 0 where
+  pub adds : Adds ks old event new
+  pub right : IsAnswerAfter kind earlier adds.before n question given
 
 -- a record that was fetched is that of its write, with its bins
 abbrev pub IsTrueRecord : Volume → Facts → ℕ → NodeAsk → NodeAnswer → List ℕ → List ℕ → Type 0

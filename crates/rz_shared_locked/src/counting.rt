@@ -8,20 +8,27 @@ use rz_chronicle::Naming;
 use rz_events::{Event, Why};
 use std::marker::Brand;
 
-/// The name of a book whose log begins anew, with the faults that the disk of each node had counted when
-/// the nodes took their locked_nodes.
-pub trait Counting: Naming {
-    ghost use Rattle.std.specs.Prelude.{ℕ, ◌≡◌, []};
+/// The name of a book, with the faults that the disk of each node had counted when the nodes came under
+/// their locks.
+pub trait Metering: Naming {
+    ghost use Rattle.std.specs.Prelude.{ℕ};
 
     ghost first: { ℕ → ℕ };
+}
+
+impl Metering for Brand {
+    ghost first = { λ n. 0 };
+}
+
+/// The name of a book whose log begins anew.
+pub trait Counting: Metering {
+    ghost use Rattle.std.specs.Prelude.{◌≡◌, []};
 
     ghost anew: { Self.earlier ≡ [] };
 }
 
 impl Counting for Brand {
     ghost use Rattle.std.specs.Prelude.{refl};
-
-    ghost first = { λ n. 0 };
 
     ghost anew = { refl };
 }

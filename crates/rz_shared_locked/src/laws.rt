@@ -8,7 +8,7 @@ use rz_disk::Disk;
 pub(crate) fn locked_node_kept<D: Disk>()
     ensures { (v : Volume) → IsLockedNodeKept D.image v }
 {
-    rz_core::one_run();
+    rz_core::next_run();
     rz_log_laws::node_kept();
     rz_node_laws::longer::<D>();
     rz_chronicle::words_kept();
@@ -18,7 +18,7 @@ pub(crate) fn locked_node_kept<D: Disk>()
 pub(crate) fn asker_kept()
     ensures { (v : Volume) → IsAskerKept v }
 {
-    rz_core::one_run();
+    rz_core::next_run();
     rz_core::permanent();
     rz_log_laws::ask_kept();
     rz_chronicle::actors_kept();
@@ -35,31 +35,29 @@ pub(crate) fn read_kept()
 pub(crate) fn answers()
     ensures { (v : Volume) → IsAnswerLaw v }
 {
-    rz_core::one_run();
+    rz_core::next_run();
     rz_core::nodes();
     rz_log_laws::node_kept();
     rz_log_laws::ask_kept();
     rz_chronicle::words_kept();
     rz_chronicle::actors_kept();
-    rz_chronicle::words_counted();
 }
 
 /// So may that of an arming.
 pub(crate) fn arming()
     ensures { (v : Volume) → IsArmLaw v }
 {
-    rz_core::one_run();
+    rz_core::next_run();
     rz_log_laws::arming();
     rz_log_laws::node_kept();
     rz_chronicle::words_kept();
-    rz_chronicle::words_counted();
 }
 
 /// The export stays the one that the log gives while its word has no event more.
 pub(crate) fn locked_export_kept()
     ensures { (v : Volume) → IsLockedExportKept v }
 {
-    rz_core::one_run();
+    rz_core::next_run();
     rz_log_laws::export_kept();
     rz_chronicle::words_kept();
 }
@@ -68,7 +66,7 @@ pub(crate) fn locked_export_kept()
 pub(crate) fn caller_kept()
     ensures { (v : Volume) → IsCallerKept v }
 {
-    rz_core::one_run();
+    rz_core::next_run();
     rz_log_laws::call_kept();
     rz_chronicle::actors_kept();
 }
@@ -77,11 +75,10 @@ pub(crate) fn caller_kept()
 pub(crate) fn replies()
     ensures { (v : Volume) → IsReplyLaw v }
 {
-    rz_core::one_run();
+    rz_core::next_run();
     rz_core::exports();
     rz_log_laws::export_kept();
     rz_log_laws::call_kept();
     rz_chronicle::words_kept();
     rz_chronicle::actors_kept();
-    rz_chronicle::words_counted();
 }

@@ -6,6 +6,10 @@
 //! just before its event, whatever other threads did meanwhile. Over any book the faults of a node's word
 //! are those that its disk counted since the node came under its lock.
 //!
+//! A book may go on after an earlier log, which then stands behind the events of this run: the calls whose
+//! names end in `after` are of any such book. The others are of a book whose log begins anew, and say the
+//! same of the events of this run alone.
+//!
 //! In reading order: `counting`, `serving`, `adding`, `waiting`, `locked_node`, `locked_export`; `laws` has what lasts
 //! while others act.
 #![tactic(auto)]
@@ -18,6 +22,6 @@ mod locked_node;
 mod serving;
 mod waiting;
 
-pub use counting::Counting;
+pub use counting::{Counting, Metering};
 pub use locked_export::{LockedExport, answer_export};
 pub use locked_node::LockedNode;

@@ -1,5 +1,5 @@
 //! The export under its lock.
-ghost use Rattle.std.specs.Prelude.{◌≡◌, ◌+◌, ◌<◌, ◌^◌, [], ◌∷◌, IsTrue};
+ghost use Rattle.std.specs.Prelude.{◌≡◌, ◌+◌, ◌<◌, ◌^◌, [], ◌∷◌, ◌++◌, IsTrue};
 ghost use Rattle.std.specs.List.{All};
 ghost use Rattle.rz_events.specs.declared.keys.Actor.{Actor as AnActor};
 ghost use Rattle.rz_events.specs.declared.export.Call.{Call as ACall};
@@ -9,15 +9,16 @@ ghost use Rattle.rz_events.specs.Events.{word_of, by_of};
 ghost use Rattle.rz_export.specs.Calls.{IsAnswered};
 ghost use Rattle.rz_export_model.specs.Export.{is_proper, new_export};
 ghost use Rattle.rz_export_model.specs.ExportEvents.{export_event};
-ghost use Rattle.rz_core.specs.History.{facts, of_actor};
-ghost use Rattle.rz_core.specs.Tied.{IsProperCall};
+ghost use Rattle.rz_core.specs.History.{facts, of_actor, of_word};
+ghost use Rattle.rz_core.specs.Tied.{IsExport, IsProperCall};
 ghost use Rattle.rz_chronicle.specs.Keys.{count_at, word_key, IsLater};
-ghost use Rattle.rz_chronicle.specs.Kinds.{IsFit, MayCome, is_honest, volume_in};
+ghost use Rattle.rz_chronicle.specs.Kinds.{IsFit, IsFitAfter, is_honest, keeps_legal, volume_in};
 ghost use Rattle.rz_chronicle.specs.Holds.{Commits, Stays};
 ghost use Rattle.rz_chronicle.specs.Dealing.{new_word_token};
-ghost use Rattle.rz_shared_locked.specs.LockedExports.{AreBytes, HasBytes, Replied, event_given};
+ghost use Rattle.rz_shared_locked.specs.Adding.{MayBeNext};
+ghost use Rattle.rz_shared_locked.specs.LockedExports.{AreBytes, HasBytes, Replied, RepliedAfter, event_given};
 
-use crate::counting::Counting;
+use crate::counting::{Counting, Metering};
 use crate::waiting::without_reply;
 use rz_chronicle::{Asks, Book, Pass, WordToken};
 use rz_events::{Actor, Call, CallRef, Reply};
@@ -45,19 +46,19 @@ fn answer_export_ref(_alloc: Global, export: &mut Export, call: CallRef<'_>) -> 
 
 /// The export under its lock, with the tally of its word.
 #[derive(Drop)]
-pub struct LockedExport<J: Counting> {
+pub struct LockedExport<J: Metering> {
     alloc: Global,
     export: Export,
     word_token: WordToken<J>,
 }
 
-impl<J: Counting> Model for LockedExport<J> {
-    ghost use Rattle.std.specs.Prelude.{◌≡◌, List, IsTrue};
+impl<J: Metering> Model for LockedExport<J> {
+    ghost use Rattle.std.specs.Prelude.{◌≡◌, ◌++◌, List, IsTrue};
     ghost use Rattle.rz_events.specs.declared.events.Event.{Event as AnEvent};
     ghost use Rattle.rz_events.specs.declared.events.Word.TheVariants as w;
     ghost use Rattle.rz_core.specs.History.{facts, of_word};
     ghost use Rattle.rz_core.specs.Tied.{IsExport};
-    ghost use Rattle.rz_chronicle.specs.Kinds.{is_honest, volume_in};
+    ghost use Rattle.rz_chronicle.specs.Kinds.{keeps_legal, volume_in};
     ghost use Rattle.rz_shared_locked.specs.LockedExports.{AreBytes};
 
     ghost Value = { List AnEvent };
@@ -65,7 +66,7 @@ impl<J: Counting> Model for LockedExport<J> {
     ghost view = { λ o. o.word_token.log };
 
     ghost invariant = { λ o. (o.word_token.word ≡ w.Export) × (o.export.volume ≡ volume_in J.kind)
-        × (IsTrue (is_honest J.kind) → IsExport (volume_in J.kind) (facts o.word_token.log) (of_word w.Export o.word_token.log) o.export)
+        × (IsTrue (keeps_legal J.kind) → IsExport (volume_in J.kind) (facts (o.word_token.log ++ J.earlier)) (of_word w.Export (o.word_token.log ++ J.earlier)) o.export)
         × AreBytes o.word_token.log };
 }
 
@@ -95,14 +96,15 @@ impl<C: Asking> Asks<Reply> for Given<C> {
     ghost event = { λ r. event_given C.by C.call r };
 }
 
-impl<J: Counting> LockedExport<J> {
-    /// The locked_export of a new export, whose word has no event yet.
-    pub fn new(alloc: Global, export: Export, word_token: WordToken<J>) -> LockedExport<J>
+impl<J: Metering> LockedExport<J> {
+    /// The locked export of an export that was opened, or is new. Its word has no event yet in this run. In a
+    /// book that keeps its log legal the export is the one that the earlier log gives.
+    pub fn opened(alloc: Global, export: Export, word_token: WordToken<J>) -> LockedExport<J>
         requires word_token { word_token ≡ new_word_token w.Export }
-        requires export { export ≡ new_export (volume_in J.kind) 0 }
+        requires volume { export.volume ≡ volume_in J.kind }
+        requires tied { IsTrue (keeps_legal J.kind) → IsExport (volume_in J.kind) (facts J.earlier) (of_word w.Export J.earlier) export }
         ensures { result ≡ [] }
     {
-        rz_log_laws::beginning();
         LockedExport {
             alloc,
             export,
@@ -124,6 +126,92 @@ impl<J: Counting> LockedExport<J> {
     }
 
     /// Calls the export, and adds the event of its reply to the log. It does not return where the export
+    /// does not take the call, which it does in a book that keeps its log legal, or where its word cannot move.
+    pub fn call_after<R: Wait>(
+        &mut self,
+        rt: &R,
+        book: &Book<J>,
+        pass: &mut Pass<J>,
+        call: CallRef<'_>,
+    ) -> Reply
+        requires actor { ¬ (pass.old.actor ≡ Actor.Admin) }
+        requires may { IsTrue (keeps_legal J.kind) → IsProperCall (volume_in J.kind) (facts (pass.old.log ++ J.earlier)) (of_actor pass.old.actor (pass.old.log ++ J.earlier)) pass.old.actor (call_of call) }
+        ensures same { (pass.new.actor ≡ pass.old.actor) × (pass.new.keys ≡ pass.old.keys) }
+        ensures replied { RepliedAfter J.kind J.earlier (call_of call.entry) result (export_event pass.old.actor (call_of call.entry) result) pass.old.keys pass.old.log pass.new.log }
+        ensures bytes { AreBytes pass.new.log }
+        ensures fit { IsFit J.kind pass.new.log }
+    {
+        crate::laws::caller_kept();
+        rz_chronicle::one_rule();
+        let _by = pass.actor();
+        if !self.enter(book, pass) {
+            return without_reply(rt);
+        }
+        self.replied(rt, book, pass, call)
+    }
+
+    // Lets the pass and the locked export see one log. It answers whether the export's word can move.
+    fn enter(&mut self, book: &Book<J>, pass: &mut Pass<J>) -> bool
+        ensures same { (pass.new.actor ≡ pass.old.actor) × (pass.new.keys ≡ pass.old.keys) }
+        ensures one { self.new ≡ pass.new.log }
+        ensures later { IsLater pass.old.log pass.new.log }
+        ensures stays { Stays pass.old.keys pass.old.log pass.new.log }
+        ensures room { IsTrue result → count_at (word_key w.Export) self.new + 1 < 2 ^ 62 }
+        ensures enters { count_at (word_key w.Export) self.new + 1 < 2 ^ 62 → IsTrue result }
+    {
+        crate::laws::locked_export_kept();
+        rz_chronicle::one_rule();
+        let _fit = self.word_token.room();
+        book.enter(pass, &mut self.word_token);
+        self.word_token.has_room_after()
+    }
+
+    // The call where its pass and the locked export have entered, and the word can move.
+    fn replied<R: Wait>(
+        &mut self,
+        rt: &R,
+        book: &Book<J>,
+        pass: &mut Pass<J>,
+        call: CallRef<'_>,
+    ) -> Reply
+        requires one { self.old ≡ pass.old.log }
+        requires room { count_at (word_key w.Export) self.old + 1 < 2 ^ 62 }
+        requires may { IsTrue (keeps_legal J.kind) → IsProperCall (volume_in J.kind) (facts (pass.old.log ++ J.earlier)) (of_actor pass.old.actor (pass.old.log ++ J.earlier)) pass.old.actor (call_of call) }
+        ensures same { (pass.new.actor ≡ pass.old.actor) × (pass.new.keys ≡ pass.old.keys) }
+        ensures replied { RepliedAfter J.kind J.earlier (call_of call.entry) result (export_event pass.old.actor (call_of call.entry) result) pass.old.keys pass.old.log pass.new.log }
+        ensures bytes { AreBytes pass.new.log }
+        ensures fit { IsFit J.kind pass.new.log }
+    {
+        crate::laws::locked_export_kept();
+        crate::laws::replies();
+        rz_chronicle::one_rule();
+        rz_chronicle::roomy();
+        let by = pass.actor();
+        look_into(call);
+        if !self.export.takes_ref(call) {
+            return without_reply(rt);
+        }
+        let reply = answer_export_ref(self.alloc, &mut self.export, call);
+        if matches!(reply, Reply::NoMemory) {
+            return reply;
+        }
+        add_reply::<J, Brand>(book, pass, &mut self.word_token, by, call, &reply);
+        reply
+    }
+}
+
+impl<J: Counting> LockedExport<J> {
+    /// The locked export of a new export, whose word has no event yet.
+    pub fn new(alloc: Global, export: Export, word_token: WordToken<J>) -> LockedExport<J>
+        requires word_token { word_token ≡ new_word_token w.Export }
+        requires export { export ≡ new_export (volume_in J.kind) 0 }
+        ensures { result ≡ [] }
+    {
+        rz_log_laws::beginning();
+        LockedExport::opened(alloc, export, word_token)
+    }
+
+    /// Calls the export, and adds the event of its reply to the log. It does not return where the export
     /// does not take the call, which it does over an honest book, or where its word cannot move.
     pub fn call<R: Wait>(
         &mut self,
@@ -139,58 +227,8 @@ impl<J: Counting> LockedExport<J> {
         ensures bytes { AreBytes pass.new.log }
         ensures fit { IsFit J.kind pass.new.log }
     {
-        crate::laws::caller_kept();
         let _by = pass.actor();
-        if !self.enter(book, pass) {
-            return without_reply(rt);
-        }
-        self.replied(rt, book, pass, call)
-    }
-
-    // Lets the pass and the locked export see one log. It answers whether the export's word can move.
-    fn enter(&mut self, book: &Book<J>, pass: &mut Pass<J>) -> bool
-        ensures same { (pass.new.actor ≡ pass.old.actor) × (pass.new.keys ≡ pass.old.keys) }
-        ensures one { self.new ≡ pass.new.log }
-        ensures later { IsLater pass.old.log pass.new.log }
-        ensures stays { Stays pass.old.keys pass.old.log pass.new.log }
-        ensures room { IsTrue result → count_at (word_key w.Export) self.new + 1 < 2 ^ 64 }
-        ensures enters { count_at (word_key w.Export) self.new + 1 < 2 ^ 64 → IsTrue result }
-    {
-        crate::laws::locked_export_kept();
-        let _fit = self.word_token.room();
-        book.enter(pass, &mut self.word_token);
-        self.word_token.room()
-    }
-
-    // The call where its pass and the locked export have entered, and the word can move.
-    fn replied<R: Wait>(
-        &mut self,
-        rt: &R,
-        book: &Book<J>,
-        pass: &mut Pass<J>,
-        call: CallRef<'_>,
-    ) -> Reply
-        requires one { self.old ≡ pass.old.log }
-        requires room { count_at (word_key w.Export) self.old + 1 < 2 ^ 64 }
-        requires may { IsTrue (is_honest J.kind) → IsProperCall (volume_in J.kind) (facts pass.old.log) (of_actor pass.old.actor pass.old.log) pass.old.actor (call_of call) }
-        ensures same { (pass.new.actor ≡ pass.old.actor) × (pass.new.keys ≡ pass.old.keys) }
-        ensures replied { Replied J.kind (call_of call.entry) result (export_event pass.old.actor (call_of call.entry) result) pass.old.keys pass.old.log pass.new.log }
-        ensures bytes { AreBytes pass.new.log }
-        ensures fit { IsFit J.kind pass.new.log }
-    {
-        crate::laws::locked_export_kept();
-        crate::laws::replies();
-        let by = pass.actor();
-        look_into(call);
-        if !self.export.takes_ref(call) {
-            return without_reply(rt);
-        }
-        let reply = answer_export_ref(self.alloc, &mut self.export, call);
-        if matches!(reply, Reply::NoMemory) {
-            return reply;
-        }
-        add_reply::<J, Brand>(book, pass, &mut self.word_token, by, call, &reply);
-        reply
+        self.call_after(rt, book, pass, call)
     }
 }
 
@@ -210,7 +248,7 @@ fn are_bytes(text: &[u8])
 }
 
 /// Adds the event of a reply that has one. The pass and the word_token have entered.
-fn add_reply<J: Counting, C: Asking>(
+fn add_reply<J: Metering, C: Asking>(
     book: &Book<J>,
     pass: &mut Pass<J>,
     word_token: &mut WordToken<J>,
@@ -221,16 +259,18 @@ fn add_reply<J: Counting, C: Asking>(
     requires of { (by ≡ C.by) × ((call_of call) ≡ C.call) }
     requires one { word_token.old.log ≡ pass.old.log }
     requires its { (word_of (event_given by (call_of call) reply.now) ≡ word_token.old.word) × (by_of (event_given by (call_of call) reply.now) ≡ pass.old.actor) }
-    requires legal { MayCome J.kind pass.old.log (event_given by (call_of call) reply.now) }
+    requires legal { MayBeNext J.kind J.earlier pass.old.log (event_given by (call_of call) reply.now) }
     requires room { count_at (word_key word_token.old.word) word_token.old.log + 1 < 2 ^ 64 }
     ensures same { (pass.new.actor ≡ pass.old.actor) × (pass.new.keys ≡ pass.old.keys) × (word_token.new.word ≡ word_token.old.word) }
     ensures one { word_token.new.log ≡ pass.new.log }
     ensures commits { Commits (word_key word_token.old.word ∷ pass.old.keys) pass.old.log (event_given by (call_of call.entry) reply.now) pass.new.log }
     ensures fit { IsFit J.kind pass.new.log }
+    ensures after { IsFitAfter J.kind pass.new.log }
 {
     let _ = by;
     let _ = call;
-    rz_chronicle::begins_anew();
+    rz_chronicle::one_rule();
     let _by = pass.actor();
     book.commit::<Reply, Given<C>>(pass, word_token, reply);
+    let _seen = pass.actor();
 }

@@ -1,26 +1,22 @@
 //! A node under its lock.
-ghost use Rattle.std.specs.Prelude.{◌≡◌, ◌+◌, ◌<◌, ◌≤◌, ◌^◌, [], IsTrue, Some, None, drop};
+ghost use Rattle.std.specs.Prelude.{◌≡◌, ◌+◌, ◌<◌, ◌≤◌, ◌^◌, [], ◌++◌, IsTrue, Some, None, drop};
 ghost use Rattle.mj_angles.specs.Layout.{max_bins_of};
 ghost use Rattle.rz_events.specs.declared.events.Word.TheVariants as w;
 ghost use Rattle.rz_events.specs.declared.events.Event.TheVariants as e;
-ghost use Rattle.rz_disk.specs.Images.{Only};
-ghost use Rattle.rz_cells_slots.specs.Held.{nothing};
-ghost use Rattle.rz_cells_slots.specs.Stands.{StandsFor};
-ghost use Rattle.rz_node_model.specs.States.{fresh};
 ghost use Rattle.rz_node_model.specs.NodeEvents as model;
 ghost use Rattle.rz_node.specs.Calls.{Takes, IsUnread};
 ghost use Rattle.rz_core.specs.History.{facts, of_word};
 ghost use Rattle.rz_core.specs.NodeRows.{IsNodeOf};
 ghost use Rattle.rz_node_laws.specs.Images.{geometry_in};
 ghost use Rattle.rz_chronicle.specs.Keys.{count_at, word_key, IsLater};
-ghost use Rattle.rz_chronicle.specs.Kinds.{IsFit, is_honest, volume_in};
+ghost use Rattle.rz_chronicle.specs.Kinds.{IsFit, is_honest, keeps_legal, volume_in};
 ghost use Rattle.rz_chronicle.specs.Holds.{Commits, Stays};
 ghost use Rattle.rz_chronicle.specs.Dealing.{new_word_token};
 ghost use Rattle.rz_shared_locked.specs.Counts.{AreCountedSince};
-ghost use Rattle.rz_shared_locked.specs.LockedNodes.{MayAsk, IsAskerRight, Answered, AreImagesFrom, IsTrueRecord};
+ghost use Rattle.rz_shared_locked.specs.LockedNodes.{MayAsk, IsAskerRight, IsLogged, Answered, AnsweredAfter, AreImagesFrom, AreImagesAfter, IsTrueRecord};
 
 use crate::adding::add;
-use crate::counting::{Counting, left_with};
+use crate::counting::{Counting, Metering, left_with};
 use crate::serving::serve;
 use crate::waiting::{stalled, unanswered};
 use rz_chronicle::{Book, Pass, WordToken};
@@ -33,7 +29,7 @@ use std::sync::Wait;
 
 /// A node under its lock, with the token of its word.
 #[derive(Drop)]
-pub struct LockedNode<D: Disk, J: Counting> {
+pub struct LockedNode<D: Disk, J: Metering> {
     alloc: Global,
     sid: u16,
     node: Node<D>,
@@ -44,13 +40,13 @@ pub struct LockedNode<D: Disk, J: Counting> {
     word_token: WordToken<J>,
 }
 
-impl<D: Disk, J: Counting> Model for LockedNode<D, J> {
-    ghost use Rattle.std.specs.Prelude.{◌≡◌, IsTrue};
+impl<D: Disk, J: Metering> Model for LockedNode<D, J> {
+    ghost use Rattle.std.specs.Prelude.{◌≡◌, ◌++◌, IsTrue};
     ghost use Rattle.rz_events.specs.declared.events.Word.TheVariants as w;
     ghost use Rattle.rz_core.specs.History.{of_word};
     ghost use Rattle.rz_core.specs.NodeRows.{IsNodeOf};
     ghost use Rattle.rz_play.specs.Faults.{fuse_of};
-    ghost use Rattle.rz_chronicle.specs.Kinds.{is_honest, volume_in};
+    ghost use Rattle.rz_chronicle.specs.Kinds.{keeps_legal, volume_in};
     ghost use Rattle.rz_node_laws.specs.Images.{geometry_in};
     ghost use Rattle.rz_shared_locked.specs.Counts.{GoesWith};
     ghost use Rattle.rz_shared_locked.specs.Picks.{pick_of};
@@ -62,31 +58,32 @@ impl<D: Disk, J: Counting> Model for LockedNode<D, J> {
 
     ghost invariant = { λ s. (s.word_token.word ≡ w.Node s.sid) × IsNodeOf (volume_in J.kind) s.sid
         × (s.node.geometry ≡ geometry_in (volume_in J.kind) s.sid)
-        × (IsTrue (is_honest J.kind) → IsTrue D.tells × IsLogged D.image (volume_in J.kind) s.word_token.log s.sid s.node)
+        × (IsTrue (keeps_legal J.kind) → IsTrue D.tells × IsLogged D.image (volume_in J.kind) (s.word_token.log ++ J.earlier) s.sid s.node)
         × IsTrue D.has_fuse
         × (s.left ≡ fuse_of (of_word (w.Node s.sid) s.word_token.log))
         × GoesWith D.meter (J.first s.sid) (of_word (w.Node s.sid) s.word_token.log) s.node
         × (s.pick ≡ pick_of (of_word (w.Node s.sid) s.word_token.log)) };
 }
 
-impl<D: Disk, J: Counting> LockedNode<D, J> {
-    /// The locked node of a node on a disk that was formatted and is not armed, whose word has no event yet. Over
-    /// an honest book the disk tells what it holds.
-    pub fn new(alloc: Global, sid: u16, node: Node<D>, word_token: WordToken<J>) -> LockedNode<D, J>
+impl<D: Disk, J: Metering> LockedNode<D, J> {
+    /// The locked node of a node that was opened on a disk, or formatted, and is not armed. Its word has no
+    /// event yet in this run. In a book that keeps its log legal the node is the one that the earlier log gives,
+    /// and the disk tells what it holds.
+    pub fn opened(
+        alloc: Global,
+        sid: u16,
+        node: Node<D>,
+        word_token: WordToken<J>,
+    ) -> LockedNode<D, J>
         requires word_token { word_token ≡ new_word_token (w.Node sid) }
         requires of_volume { IsNodeOf (volume_in J.kind) sid }
         requires geometry { node.geometry ≡ geometry_in (volume_in J.kind) sid }
-        requires fresh { node.state ≡ fresh }
-        requires stands { IsTrue D.tells → StandsFor node.geometry 0 (D.text node.disk) nothing }
-        requires settled { Only (D.text node.disk) (D.image node.disk) }
-        requires tells { IsTrue (is_honest J.kind) → IsTrue D.tells }
+        requires logged { IsTrue (keeps_legal J.kind) → IsTrue D.tells × IsLogged D.image (volume_in J.kind) J.earlier sid node }
         requires fuse { IsTrue D.has_fuse }
         requires unarmed { (D.meter node.disk).fuse ≡ None }
         requires count { J.first sid ≤ (D.meter node.disk).own }
         ensures { result ≡ record { node = sid; log = [] } }
     {
-        rz_log_laws::beginning();
-        rz_node_laws::fresh::<D>();
         LockedNode {
             alloc,
             sid,
@@ -104,17 +101,19 @@ impl<D: Disk, J: Counting> LockedNode<D, J> {
         self.sid
     }
 
-    /// The disk, and the token of the node's word, of which the disk counted the faults. Over an honest book
-    /// each image of the disk is one that the word gives, in each later log too that has no further event of it.
-    pub fn close(self) -> (D, WordToken<J>)
+    /// The disk, and the token of the node's word, of which the disk counted the faults. In a book that
+    /// keeps its log legal each image of the disk is one that the word gives, in each later log too that has no
+    /// further event of it.
+    pub fn close_after(self) -> (D, WordToken<J>)
         ensures word_token { result.1 ≡ record { word = w.Node self.node; log = self.log } }
         ensures of_volume { IsNodeOf (volume_in J.kind) self.node }
-        ensures images { IsTrue (is_honest J.kind) → AreImagesFrom (volume_in J.kind) self.log self.node (D.image result.0) }
+        ensures images { IsTrue (keeps_legal J.kind) → AreImagesAfter (volume_in J.kind) J.earlier self.log self.node (D.image result.0) }
         ensures counted { AreCountedSince (J.first self.node) (D.meter result.0).own (of_word (w.Node self.node) self.log) }
     {
         crate::laws::locked_node_kept::<D>();
         rz_node_laws::logged::<D>();
         rz_node_laws::counted();
+        rz_chronicle::one_rule();
         let _fit = self.word_token.room();
         let LockedNode {
             alloc: _,
@@ -129,7 +128,7 @@ impl<D: Disk, J: Counting> LockedNode<D, J> {
 
     /// Calls the node, and adds the event of its answer to the log. It does not return where this is
     /// another node, or where its word cannot move.
-    pub fn call<R: Wait>(
+    pub fn call_after<R: Wait>(
         &mut self,
         rt: &R,
         book: &Book<J>,
@@ -140,11 +139,11 @@ impl<D: Disk, J: Counting> LockedNode<D, J> {
     ) -> NodeAnswer
         requires takes { Takes (volume_in J.kind).layout ask.now bins.old }
         requires actor { IsAskerRight pass.old.actor ask.now }
-        requires may { IsTrue (is_honest J.kind) → MayAsk (volume_in J.kind) pass.old.log pass.old.actor node ask.now bins.old }
+        requires may { IsTrue (keeps_legal J.kind) → MayAsk (volume_in J.kind) (pass.old.log ++ J.earlier) pass.old.actor node ask.now bins.old }
         ensures locked_node { self.new.node ≡ self.old.node }
         ensures same { (pass.new.actor ≡ pass.old.actor) × (pass.new.keys ≡ pass.old.keys) }
-        ensures answered { Answered J.kind node ask.now result (model.node_event pass.old.actor node ask.now result) pass.old.keys pass.old.log pass.new.log }
-        ensures read { IsTrue (is_honest J.kind) → IsTrueRecord (volume_in J.kind) (facts pass.new.log) node ask.now result bins.old bins.new }
+        ensures answered { AnsweredAfter J.kind J.earlier node ask.now result (model.node_event pass.old.actor node ask.now result) pass.old.keys pass.old.log pass.new.log }
+        ensures read { IsTrue (keeps_legal J.kind) → IsTrueRecord (volume_in J.kind) (facts (pass.new.log ++ J.earlier)) node ask.now result bins.old bins.new }
 
         // The caller's bins are written where a record was read, and not behind the most bins that one has.
         ensures unread { IsUnread result → bins.new ≡ bins.old }
@@ -153,6 +152,7 @@ impl<D: Disk, J: Counting> LockedNode<D, J> {
         ensures fit { IsFit J.kind pass.new.log }
     {
         crate::laws::asker_kept();
+        rz_chronicle::one_rule();
         let _by = pass.actor();
         if !self.enter(book, pass, node) {
             return stalled(rt);
@@ -191,14 +191,15 @@ impl<D: Disk, J: Counting> LockedNode<D, J> {
         ensures later { IsLater pass.old.log pass.new.log }
         ensures stays { Stays pass.old.keys pass.old.log pass.new.log }
         ensures node { IsTrue result → self.new.node ≡ node }
-        ensures room { IsTrue result → count_at (word_key (w.Node self.new.node)) self.new.log + 1 < 2 ^ 64 }
-        ensures enters { self.new.node ≡ node → count_at (word_key (w.Node self.new.node)) self.new.log + 1 < 2 ^ 64 → IsTrue result }
+        ensures room { IsTrue result → count_at (word_key (w.Node self.new.node)) self.new.log + 1 < 2 ^ 62 }
+        ensures enters { self.new.node ≡ node → count_at (word_key (w.Node self.new.node)) self.new.log + 1 < 2 ^ 62 → IsTrue result }
     {
         crate::laws::locked_node_kept::<D>();
         rz_chronicle::words_kept();
+        rz_chronicle::one_rule();
         let _fit = self.word_token.room();
         book.enter(pass, &mut self.word_token);
-        self.sid == node && self.word_token.room()
+        self.sid == node && self.word_token.has_room_after()
     }
 
     // The call where its pass and the locked node have entered, and the word can move.
@@ -210,14 +211,14 @@ impl<D: Disk, J: Counting> LockedNode<D, J> {
         bins: &mut [u64],
     ) -> NodeAnswer
         requires one { self.old.log ≡ pass.old.log }
-        requires room { count_at (word_key (w.Node self.old.node)) self.old.log + 1 < 2 ^ 64 }
+        requires room { count_at (word_key (w.Node self.old.node)) self.old.log + 1 < 2 ^ 62 }
         requires takes { Takes (volume_in J.kind).layout ask.now bins.old }
         requires actor { IsAskerRight pass.old.actor ask.now }
-        requires may { IsTrue (is_honest J.kind) → MayAsk (volume_in J.kind) pass.old.log pass.old.actor self.old.node ask.now bins.old }
+        requires may { IsTrue (keeps_legal J.kind) → MayAsk (volume_in J.kind) (pass.old.log ++ J.earlier) pass.old.actor self.old.node ask.now bins.old }
         ensures locked_node { self.new.node ≡ self.old.node }
         ensures same { (pass.new.actor ≡ pass.old.actor) × (pass.new.keys ≡ pass.old.keys) }
-        ensures answered { Answered J.kind self.old.node ask.now result (model.node_event pass.old.actor self.old.node ask.now result) pass.old.keys pass.old.log pass.new.log }
-        ensures read { IsTrue (is_honest J.kind) → IsTrueRecord (volume_in J.kind) (facts pass.new.log) self.old.node ask.now result bins.old bins.new }
+        ensures answered { AnsweredAfter J.kind J.earlier self.old.node ask.now result (model.node_event pass.old.actor self.old.node ask.now result) pass.old.keys pass.old.log pass.new.log }
+        ensures read { IsTrue (keeps_legal J.kind) → IsTrueRecord (volume_in J.kind) (facts (pass.new.log ++ J.earlier)) self.old.node ask.now result bins.old bins.new }
         ensures unread { IsUnread result → bins.new ≡ bins.old }
         ensures rest { drop (max_bins_of (volume_in J.kind).layout) bins.new ≡ drop (max_bins_of (volume_in J.kind).layout) bins.old }
         ensures fit { IsFit J.kind pass.new.log }
@@ -228,6 +229,8 @@ impl<D: Disk, J: Counting> LockedNode<D, J> {
         rz_node_laws::longer::<D>();
         let by = pass.actor();
         rz_chronicle::words_kept();
+        rz_chronicle::one_rule();
+        rz_chronicle::roomy();
         let answer = serve(
             self.alloc,
             &self.word_token,
@@ -247,7 +250,7 @@ impl<D: Disk, J: Counting> LockedNode<D, J> {
     // The arming where its pass and the locked node have entered, and the word can move.
     fn armed(&mut self, book: &Book<J>, pass: &mut Pass<J>, passes: u64, pick: u64)
         requires one { self.old.log ≡ pass.old.log }
-        requires room { count_at (word_key (w.Node self.old.node)) self.old.log + 1 < 2 ^ 64 }
+        requires room { count_at (word_key (w.Node self.old.node)) self.old.log + 1 < 2 ^ 62 }
         requires actor { pass.old.actor ≡ Actor.Admin }
         ensures locked_node { self.new.node ≡ self.old.node }
         ensures same { (pass.new.actor ≡ pass.old.actor) × (pass.new.keys ≡ pass.old.keys) }
@@ -258,6 +261,8 @@ impl<D: Disk, J: Counting> LockedNode<D, J> {
         rz_node_laws::fewer::<D>();
         rz_node_laws::longer::<D>();
         rz_chronicle::words_kept();
+        rz_chronicle::one_rule();
+        rz_chronicle::roomy();
         rz_node_laws::armed();
         let _by = pass.actor();
         self.node.arm(Some(passes));
@@ -269,5 +274,48 @@ impl<D: Disk, J: Counting> LockedNode<D, J> {
             pick,
         };
         add(book, pass, &mut self.word_token, Some(event));
+    }
+}
+
+impl<D: Disk, J: Counting> LockedNode<D, J> {
+    /// The disk, and the token of the node's word, of which the disk counted the faults. Over an honest book
+    /// each image of the disk is one that the word gives, in each later log too that has no further event of it.
+    pub fn close(self) -> (D, WordToken<J>)
+        ensures word_token { result.1 ≡ record { word = w.Node self.node; log = self.log } }
+        ensures of_volume { IsNodeOf (volume_in J.kind) self.node }
+        ensures images { IsTrue (is_honest J.kind) → AreImagesFrom (volume_in J.kind) self.log self.node (D.image result.0) }
+        ensures counted { AreCountedSince (J.first self.node) (D.meter result.0).own (of_word (w.Node self.node) self.log) }
+    {
+        let _fit = self.word_token.room();
+        self.close_after()
+    }
+
+    /// Calls the node, and adds the event of its answer to the log. It does not return where this is
+    /// another node, or where its word cannot move.
+    pub fn call<R: Wait>(
+        &mut self,
+        rt: &R,
+        book: &Book<J>,
+        pass: &mut Pass<J>,
+        node: u16,
+        ask: &NodeAsk,
+        bins: &mut [u64],
+    ) -> NodeAnswer
+        requires takes { Takes (volume_in J.kind).layout ask.now bins.old }
+        requires actor { IsAskerRight pass.old.actor ask.now }
+        requires may { IsTrue (is_honest J.kind) → MayAsk (volume_in J.kind) pass.old.log pass.old.actor node ask.now bins.old }
+        ensures locked_node { self.new.node ≡ self.old.node }
+        ensures same { (pass.new.actor ≡ pass.old.actor) × (pass.new.keys ≡ pass.old.keys) }
+        ensures answered { Answered J.kind node ask.now result (model.node_event pass.old.actor node ask.now result) pass.old.keys pass.old.log pass.new.log }
+        ensures read { IsTrue (is_honest J.kind) → IsTrueRecord (volume_in J.kind) (facts pass.new.log) node ask.now result bins.old bins.new }
+
+        // The caller's bins are written where a record was read, and not behind the most bins that one has.
+        ensures unread { IsUnread result → bins.new ≡ bins.old }
+        ensures rest { drop (max_bins_of (volume_in J.kind).layout) bins.new ≡ drop (max_bins_of (volume_in J.kind).layout) bins.old }
+
+        ensures fit { IsFit J.kind pass.new.log }
+    {
+        let _by = pass.actor();
+        self.call_after(rt, book, pass, node, ask, bins)
     }
 }

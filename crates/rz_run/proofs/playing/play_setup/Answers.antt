@@ -34,7 +34,7 @@ new-requires-clause-nodes g c =
     subst (λ (v : Volume). c.args.setup.desk.nodes.items ≡ map (λ n. new_word_token (Node n)) (sids_of v)) at c.requires.nodes
 
 pub new-requires-clause-counts : goal.new-requires-clause-counts
-new-requires-clause-counts g c = subst (λ (v : Volume). map g.J.Counting.first (sids_of v) ≡ map (λ d. faults (g.D.Disk.meter d)) c.args.disks.items) (sym c.requires.volume) c.requires.counts
+new-requires-clause-counts g c = subst (λ (v : Volume). map g.J.Metering.first (sids_of v) ≡ map (λ d. faults (g.D.Disk.meter d)) c.args.disks.items) (sym c.requires.volume) c.requires.counts
 
 pub play-front-requires-clause-volume : goal.play-front-requires-clause-volume
 play-front-requires-clause-volume g c κs within = c.requires.known ∙ sym (volume-is c.read_back.ensures g.J.Naming.kind c.args.script.now.volume c.requires.kind)
@@ -82,7 +82,7 @@ returns-in-Ok g c =
       record {
         told = told-of (is_honest kind) c.play-front.result.ended v lines log sink c.tell-status.result finished begun c.tell-status.ensures;
         true_log = λ honest. c.true_logs.ensures v log (subst (λ (u : Volume). IsLegal u log) at (c.play-front.ensures.fit honest));
-        disks_told = disks-at c.read_back.ensures kind v c.requires.kind g.D.Disk.meter g.D.Disk.image g.J.Counting.first log c.in-Ok.cluster c.args.disks.items c.play-front.result.disks.items c.in-Ok.ensures.volume c.requires.counts c.play-front.ensures.disks;
+        disks_told = disks-at c.read_back.ensures kind v c.requires.kind g.D.Disk.meter g.D.Disk.image g.J.Metering.first log c.in-Ok.cluster c.args.disks.items c.play-front.result.disks.items c.in-Ok.ensures.volume c.requires.counts c.play-front.ensures.disks;
         links_told = lost-all kind lines log g.L.Link.lost actors c.args.setup.pool.workers.items c.play-front.result.links.items c.requires.staffed c.play-front.ensures.links;
       },
     )

@@ -1,15 +1,21 @@
-use Rattle.std.proofs.Common.{◌∷◌, Option, Some, None, refl, sym, subst}
+use Rattle.std.proofs.Common.{◌∷◌, Option, Some, None, IfSome, refl, sym, subst}
 use Rattle.rz_events.specs.declared.events.Event.{Event}
 use Rattle.rz_chronicle.specs.Keys.{word_key}
-use Rattle.rz_chronicle.specs.Kinds.{HasEarlierLog}
 use Rattle.rz_chronicle.specs.Rules.{PassView}
-use Rattle.rz_shared_locked.specs.Adding.{Adds}
+use Rattle.rz_shared_locked.specs.Adding.{Adds, MayBeNext}
 use Rattle.rz_shared_locked.proofs.Logs.{later-self, commits-adds}
 use Rattle.rz_shared_locked.proofs.adding.add.Goals as goal
 use Rattle.rz_shared_locked.proofs.adding.add.Goals.{in-Some, in-None}
 
+pub commit-requires-clause-legal : goal.commit-requires-clause-legal
+commit-requires-clause-legal g c =
+    (c.one_rule.ensures.may g.J.Naming.kind g.J.Naming.earlier c.args.pass.now.log c.in-Some.event c.actor-by.ensures.earlier
+    (subst (λ (o : Option Event). IfSome o (λ x. MayBeNext g.J.Naming.kind g.J.Naming.earlier c.args.pass.now.log x)) c.in-Some.is c.requires.legal)).0
+
 pub commit-requires-clause-after : goal.commit-requires-clause-after
-commit-requires-clause-after g c = c.begins_anew.ensures g.J.Naming.kind _ _ (subst (HasEarlierLog g.J.Naming.kind) g.met.J.Counting.anew c.actor-by.ensures.earlier)
+commit-requires-clause-after g c =
+    (c.one_rule.ensures.may g.J.Naming.kind g.J.Naming.earlier c.args.pass.now.log c.in-Some.event c.actor-by.ensures.earlier
+    (subst (λ (o : Option Event). IfSome o (λ x. MayBeNext g.J.Naming.kind g.J.Naming.earlier c.args.pass.now.log x)) c.in-Some.is c.requires.legal)).1
 
 pub returns-clause-adds : goal.returns-clause-adds
 returns-clause-adds g c =

@@ -1,6 +1,6 @@
 use Rattle.std.proofs.Common.{◌∙◌, None, ap}
 use Rattle.rz_disk.specs.Meter.{armed}
-use Rattle.rz_shared_locked.proofs.Metering.{armed-there}
+use Rattle.rz_shared_locked.proofs.Meters.{armed-there}
 use Rattle.rz_shared_locked.proofs.serving.lose_power.Goals as goal
 
 pub returns-clause-meter : goal.returns-clause-meter

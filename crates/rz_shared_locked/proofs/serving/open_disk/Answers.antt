@@ -5,7 +5,7 @@ use Rattle.rz_cells_slots.specs.declared.geometry.Geometry.{Geometry}
 use Rattle.rz_node_model.specs.States.{NodeState}
 use Rattle.rz_node_laws.specs.Images.{IsImaged}
 use Rattle.rz_shared_locked.proofs.Disks.{starts}
-use Rattle.rz_shared_locked.proofs.Metering.{phase-after}
+use Rattle.rz_shared_locked.proofs.Meters.{phase-after}
 use Rattle.rz_shared_locked.proofs.serving.open_disk.Goals as goal
 
 pub returns-clause-imaged : goal.returns-clause-imaged

@@ -8,7 +8,7 @@ use Rattle.rz_node.specs.Calls as calls
 use Rattle.rz_play.specs.Lines.{noted}
 use Rattle.rz_shared_locked.specs.Counts.{GoesWith}
 use Rattle.rz_shared_locked.proofs.Disks.{read}
-use Rattle.rz_shared_locked.proofs.Metering.{call-goes, no-start-of}
+use Rattle.rz_shared_locked.proofs.Meters.{call-goes, no-start-of}
 use Rattle.rz_shared_locked.proofs.serving.serve.Goals as goal
 use Rattle.rz_shared_locked.proofs.serving.serve.Goals.{in-Start, in_default}
 

@@ -8,7 +8,7 @@ use Rattle.rz_node_model.specs.States.{NodeState}
 use Rattle.rz_node_model.specs.Answers.{IsNodeAnswer}
 use Rattle.rz_node_model.specs.Afterwards.{after_start}
 use Rattle.rz_node.specs.Opens.{Opens}
-use Rattle.rz_shared_locked.proofs.Metering.{start-goes}
+use Rattle.rz_shared_locked.proofs.Meters.{start-goes}
 use Rattle.rz_shared_locked.proofs.serving.start.Goals as goal
 
 pub returns-clause-imaged : goal.returns-clause-imaged

@@ -6,6 +6,7 @@ use Rattle.rz_events.specs.Volume.{Volume, IsNode, nodes_of}
 use Rattle.rz_events.specs.declared.files.NodeSpec.{NodeSpec}
 use Rattle.rz_chronicle.specs.Keys.{sids_of}
 use Rattle.rz_chronicle.specs.Kinds.{volume_in}
+use Rattle.rz_shared.proofs.Alone.{keeps-honest}
 use Rattle.rz_shared.proofs.NewLockedNodes.{untouched, all-ready, made-length}
 use Rattle.rz_shared.proofs.cluster.Cluster.new.Goals as goal
 
@@ -17,7 +18,9 @@ format_all-requires-clause-nodes g c = subst (AllByRecursion IsNode) (sym (c.as_
 
 pub locked_node_all-locked_nodes-requires-clause-ready : goal.locked_node_all-locked_nodes-requires-clause-ready
 locked_node_all-locked_nodes-requires-clause-ready g c =
-    all-ready g.D.Disk.tells g.D.Disk.meter g.D.Disk.image g.D.Disk.text g.J.Counting.first c.args.volume (volume_in g.J.Naming.kind) c.in-Ok.parts.layout c.as_slice.result.now c.args.disks.items c.in-Ok-format_all.servers.items c.args.desk.nodes.items
+    all-ready g.D.Disk.tells g.D.Disk.meter g.D.Disk.image g.D.Disk.text g.J.Naming.kind g.J.Naming.earlier g.met.J.Counting.anew
+    (λ keeps. c.requires.tells (keeps-honest g.J.Naming.kind g.J.Naming.earlier c.room-fit.ensures.earlier g.met.J.Counting.anew keeps))
+    (c.beginning.ensures (volume_in g.J.Naming.kind)) c.fresh.ensures g.J.Metering.first c.args.volume c.in-Ok.parts.layout c.as_slice.result.now c.args.disks.items c.in-Ok-format_all.servers.items c.args.desk.nodes.items
     c.requires.volume c.new_parts.ensures.rules c.in-Ok.ensures.layout (c.as_slice.ensures.value ∙ c.in-Ok.ensures.nodes) c.requires.count c.requires.counts c.in-Ok-format_all.ensures.made c.requires.nodes
 
 pub locked_node_all-locked_nodes-requires-clause-room : goal.locked_node_all-locked_nodes-requires-clause-room

@@ -1,4 +1,4 @@
-use Rattle.std.proofs.Common.{◌≡◌, ◌∙◌, List, refl, sym, subst, inl}
+use Rattle.std.proofs.Common.{◌≡◌, ◌∙◌, List, ◌++◌, refl, sym, subst, inl}
 use Rattle.rz_events.specs.declared.events.Word.{Word}
 use Rattle.rz_events.specs.declared.events.Word.TheVariants as w
 use Rattle.rz_events.specs.declared.events.Event.{Event}
@@ -12,7 +12,9 @@ use Rattle.rz_shared_locked.proofs.locked_export.LockedExport.enter.Goals as goa
 
 pub invariant_of-self : goal.invariant_of-self
 invariant_of-self g c =
-    let v = volume_in g.J.Naming.kind in
+    let kind = g.J.Naming.kind in
+    let v = volume_in kind in
+    let earlier = g.J.Naming.earlier in
     let s = c.self.inside.export in
     let inv = c.self.invariant in
     let old = c.self.inside.word_token.log in
@@ -22,8 +24,9 @@ invariant_of-self g c =
       c.enter.ensures.same.2 ∙ inv.0,
       inv.1,
       (
-          λ honest. subst (λ (l : List Event). IsExport v (facts l) (of_word w.Export l) s) (sym c.enter.ensures.one)
-          (c.locked_export_kept.ensures v old new s (c.room-fit.ensures.fit honest) c.enter.ensures.later.1 same (inv.2 honest))
+          λ keeps. subst (λ (l : List Event). IsExport v (facts (l ++ earlier)) (of_word w.Export (l ++ earlier)) s) (sym c.enter.ensures.one)
+          (c.locked_export_kept.ensures v earlier old new s (c.one_rule.ensures.legal kind earlier old c.room-fit.ensures.earlier keeps (c.room-fit.ensures.fit, c.room-fit.ensures.after))
+          c.enter.ensures.later.1 same (inv.2 keeps))
           ),
       subst AreBytes (sym c.enter.ensures.one) (bytes-same old new same inv.3),
     )

@@ -1,19 +1,20 @@
-use Rattle.std.proofs.Common.{◌≡◌, ◌+◌, ◌<◌, ◌^◌, ℕ, IsTrue, List, ◌∷◌, Some, refl, sym, ap, ◌∙◌, subst}
+use Rattle.std.proofs.Common.{◌≡◌, ◌<◌, ◌-◌, ◌^◌, ℕ, IsTrue, List, ◌∷◌, ◌++◌, length, Some, refl, sym, ap, ◌∙◌, subst}
 use Rattle.rz_events.specs.declared.keys.Actor.TheVariants.{Admin}
 use Rattle.rz_events.specs.declared.events.Word.{Word}
 use Rattle.rz_events.specs.declared.events.Word.TheVariants as w
 use Rattle.rz_events.specs.declared.events.Event.{Event}
 use Rattle.rz_events.specs.declared.events.Event.TheVariants as e
 use Rattle.rz_core.specs.History.{facts, of_word}
+use Rattle.rz_core.specs.Legal.{IsLegalAfter}
 use Rattle.rz_play.specs.Faults.{fuse_of}
-use Rattle.rz_chronicle.specs.Keys.{count_at, word_key}
-use Rattle.rz_chronicle.specs.Kinds.{is_honest, volume_in}
+use Rattle.rz_chronicle.specs.Keys.{word_key}
+use Rattle.rz_chronicle.specs.Kinds.{keeps_legal, volume_in}
 use Rattle.rz_shared_locked.specs.Adding.{Adds}
 use Rattle.rz_shared_locked.specs.Counts.{GoesWith}
 use Rattle.rz_shared_locked.specs.Laws.{IsAllowedLater}
 use Rattle.rz_shared_locked.specs.Picks.{pick_of}
 use Rattle.rz_shared_locked.specs.LockedNodes.{LockedNodeView, IsLogged}
-use Rattle.rz_shared_locked.proofs.Metering.{arm-goes, armed-there}
+use Rattle.rz_shared_locked.proofs.Meters.{arm-goes, armed-there}
 use Rattle.rz_shared_locked.proofs.LockedNodes.{armed-logged, word-after}
 use Rattle.rz_shared_locked.proofs.locked_node.LockedNode.armed.Goals as goal
 
@@ -29,12 +30,16 @@ add-requires-clause-legal g c =
     let inv = c.self.invariant in
     let node : n ≡ c.args.self.now.node = ap (λ (x : LockedNodeView). x.node) c.self.view_is in
     let log : c.self.inside.word_token.log ≡ h = ap (λ (x : LockedNodeView). x.log) c.self.view_is ∙ c.requires.one in
-    let logged : IsTrue (is_honest kind) → IsLogged image v h n was = λ honest. subst (λ (l : List Event). IsLogged image v l n was) log (inv.3 honest).1 in
-    let room : count_at (word_key (w.Node n)) h + 1 < 2 ^ 64 = subst (λ (m : ℕ). count_at (word_key (w.Node m)) h + 1 < 2 ^ 64) (sym node)
-    (subst (λ (l : List Event). count_at (word_key (w.Node c.args.self.now.node)) l + 1 < 2 ^ 64) c.requires.one c.requires.room) in
-    let step : IsTrue (is_honest kind) → IsAllowedLater v h by n (e.Armed n c.args.passes c.args.pick) was.state = λ honest.
-    c.arming.ensures v h by n c.args.passes c.args.pick was.state (record { legal = c.actor-by.ensures.fit honest; of_volume = inv.1; tied = (logged honest).tied; room = room }) in
-    λ honest. (step honest).allowed
+    let earlier = g.J.Naming.earlier in
+    let logged : IsTrue (keeps_legal kind) → IsLogged image v (h ++ earlier) n was = λ keeps. subst (λ (l : List Event). IsLogged image v (l ++ earlier) n was) log (inv.3 keeps).1 in
+    let fit : IsTrue (keeps_legal kind) → IsLegalAfter v earlier h = λ keeps.
+    c.one_rule.ensures.legal kind earlier h c.actor-by.ensures.earlier keeps (c.actor-by.ensures.fit, c.actor-by.ensures.after) in
+    let room : length (of_word (w.Node n) (h ++ earlier)) < 2 ^ 64 - 1 = subst (λ (m : ℕ). length (of_word (w.Node m) (h ++ earlier)) < 2 ^ 64 - 1) (sym node)
+    (subst (λ (l : List Event). length (of_word (w.Node c.args.self.now.node) (l ++ earlier)) < 2 ^ 64 - 1) c.requires.one
+    (c.roomy.ensures kind (w.Node c.args.self.now.node) c.args.self.now.log earlier c.actor-by.ensures.earlier c.requires.room)) in
+    let step : IsTrue (keeps_legal kind) → IsAllowedLater v earlier h by n (e.Armed n c.args.passes c.args.pick) was.state = λ keeps.
+    c.arming.ensures v earlier h by n c.args.passes c.args.pick was.state (record { legal = fit keeps; of_volume = inv.1; tied = (logged keeps).tied; room = room }) in
+    λ keeps. (step keeps).allowed
 
 pub invariant_of-self : goal.invariant_of-self
 invariant_of-self g c =
@@ -48,11 +53,15 @@ invariant_of-self g c =
     let inv = c.self.invariant in
     let node : n ≡ c.args.self.now.node = ap (λ (x : LockedNodeView). x.node) c.self.view_is in
     let log : c.self.inside.word_token.log ≡ h = ap (λ (x : LockedNodeView). x.log) c.self.view_is ∙ c.requires.one in
-    let logged : IsTrue (is_honest kind) → IsLogged image v h n was = λ honest. subst (λ (l : List Event). IsLogged image v l n was) log (inv.3 honest).1 in
-    let room : count_at (word_key (w.Node n)) h + 1 < 2 ^ 64 = subst (λ (m : ℕ). count_at (word_key (w.Node m)) h + 1 < 2 ^ 64) (sym node)
-    (subst (λ (l : List Event). count_at (word_key (w.Node c.args.self.now.node)) l + 1 < 2 ^ 64) c.requires.one c.requires.room) in
-    let step : IsTrue (is_honest kind) → IsAllowedLater v h by n (e.Armed n c.args.passes c.args.pick) was.state = λ honest.
-    c.arming.ensures v h by n c.args.passes c.args.pick was.state (record { legal = c.actor-by.ensures.fit honest; of_volume = inv.1; tied = (logged honest).tied; room = room }) in
+    let earlier = g.J.Naming.earlier in
+    let logged : IsTrue (keeps_legal kind) → IsLogged image v (h ++ earlier) n was = λ keeps. subst (λ (l : List Event). IsLogged image v (l ++ earlier) n was) log (inv.3 keeps).1 in
+    let fit : IsTrue (keeps_legal kind) → IsLegalAfter v earlier h = λ keeps.
+    c.one_rule.ensures.legal kind earlier h c.actor-by.ensures.earlier keeps (c.actor-by.ensures.fit, c.actor-by.ensures.after) in
+    let room : length (of_word (w.Node n) (h ++ earlier)) < 2 ^ 64 - 1 = subst (λ (m : ℕ). length (of_word (w.Node m) (h ++ earlier)) < 2 ^ 64 - 1) (sym node)
+    (subst (λ (l : List Event). length (of_word (w.Node c.args.self.now.node) (l ++ earlier)) < 2 ^ 64 - 1) c.requires.one
+    (c.roomy.ensures kind (w.Node c.args.self.now.node) c.args.self.now.log earlier c.actor-by.ensures.earlier c.requires.room)) in
+    let step : IsTrue (keeps_legal kind) → IsAllowedLater v earlier h by n (e.Armed n c.args.passes c.args.pick) was.state = λ keeps.
+    c.arming.ensures v earlier h by n c.args.passes c.args.pick was.state (record { legal = fit keeps; of_volume = inv.1; tied = (logged keeps).tied; room = room }) in
     let new = c.add.new.pass.log in
     let after = c.arm.new.self in
     let x = e.Armed n c.args.passes c.args.pick in
@@ -63,17 +72,18 @@ invariant_of-self g c =
       c.add.ensures.same.2 ∙ inv.0,
       inv.1,
       c.arm.ensures.geometry ∙ inv.2,
-      λ honest. (
-        (inv.3 honest).0,
-        subst (λ (l : List Event). IsLogged image v l n after) (sym c.add.ensures.one)
-            (armed-logged image v h by n x was after (step honest) c.longer.ensures
-            (c.fewer.ensures v (facts h) n was.geometry was.state was.disk after.disk c.arm.ensures.within (logged honest).imaged)
-            c.arm.ensures.state c.arm.ensures.geometry ks new adds c.actor-by.ensures.own (c.add.ensures.fit honest)),
+      λ keeps. (
+        (inv.3 keeps).0,
+        subst (λ (l : List Event). IsLogged image v (l ++ earlier) n after) (sym c.add.ensures.one)
+            (armed-logged image v earlier h by n x was after (step keeps) c.longer.ensures
+            (c.fewer.ensures v (facts (h ++ earlier)) n was.geometry was.state was.disk after.disk c.arm.ensures.within (logged keeps).imaged)
+            c.arm.ensures.state c.arm.ensures.geometry ks new adds c.actor-by.ensures.own
+            (c.one_rule.ensures.legal kind earlier new c.actor-by.ensures.earlier keeps (c.add.ensures.fit, c.add.ensures.after))),
       ),
       inv.4,
       ap fuse_of (sym word),
-      subst (λ (u : List Event). GoesWith g.D.Disk.meter (g.J.Counting.first n) u after) (sym word)
-          (arm-goes g.D.Disk.meter c.armed.ensures (g.J.Counting.first n) n c.args.passes c.args.pick (of_word (w.Node n) c.self.inside.word_token.log) was after c.arm.ensures.state
+      subst (λ (u : List Event). GoesWith g.D.Disk.meter (g.J.Metering.first n) u after) (sym word)
+          (arm-goes g.D.Disk.meter c.armed.ensures (g.J.Metering.first n) n c.args.passes c.args.pick (of_word (w.Node n) c.self.inside.word_token.log) was after c.arm.ensures.state
           (armed-there g.D.Disk.has_fuse (Some c.args.passes) (g.D.Disk.meter was.disk) (g.D.Disk.meter after.disk) inv.4 c.arm.ensures.meter) inv.6),
       ap pick_of (sym word),
     )

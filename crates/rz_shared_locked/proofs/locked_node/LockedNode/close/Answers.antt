@@ -1,36 +1,15 @@
-use Rattle.std.proofs.Common.{List, sym, subst}
+use Rattle.std.proofs.Common.{List, subst}
 use Rattle.rz_events.specs.declared.events.Word.TheVariants as w
 use Rattle.rz_events.specs.declared.events.Event.{Event}
-use Rattle.rz_cells_slots.specs.declared.geometry.Geometry.{Geometry}
 use Rattle.rz_core.specs.History.{facts, of_word}
 use Rattle.rz_node_laws.specs.Images.{AreImages, geometry_in}
 use Rattle.rz_chronicle.specs.Kinds.{volume_in}
-use Rattle.rz_shared_locked.specs.Counts.{AreCountedSince}
-use Rattle.rz_shared_locked.specs.LockedNodes.{AreImagesFrom, LockedNodeView}
-use Rattle.rz_shared_locked.proofs.Metering.{goes-counted}
+use Rattle.rz_shared_locked.proofs.Behind.{alone, honest-keeps}
 use Rattle.rz_shared_locked.proofs.locked_node.LockedNode.close.Goals as goal
 
 pub returns-clause-images : goal.returns-clause-images
-returns-clause-images g c = λ honest.
+returns-clause-images g c = λ honest new later same.
     let v = volume_in g.J.Naming.kind in
-    let image = g.D.Disk.image in
-    let n = c.self.inside.sid in
-    let l = c.self.inside.word_token.log in
-    let node = c.self.inside.node in
-    let logged = (c.self.invariant.3 honest).1 in
-    let from : AreImagesFrom v l n (image c.into_disk.result) = λ new later same.
-    let now = c.locked_node_kept.ensures v l new n node (c.room-fit.ensures.fit honest) later same logged in
-    let it = c.logged.ensures v (facts new) (of_word (w.Node n) new) n node.geometry node.state node.disk now.tied now.imaged in
-    subst (λ (d : g.row.D.Denot). AreImages v (facts new) (of_word (w.Node n) new) n (geometry_in v n) (image d)) (sym c.into_disk.ensures)
-    (subst (λ (k : Geometry). AreImages v (facts new) (of_word (w.Node n) new) n k (image node.disk)) c.self.invariant.2 it) in
-    subst (λ (x : LockedNodeView). AreImagesFrom v x.log x.node (image c.into_disk.result)) c.self.view_is from
-
-pub returns-clause-counted : goal.returns-clause-counted
-returns-clause-counted g c =
-    let meter = g.D.Disk.meter in
-    let n = c.self.inside.sid in
-    let l = c.self.inside.word_token.log in
-    let node = c.self.inside.node in
-    let it = goes-counted meter c.counted.ensures (g.J.Counting.first n) (of_word (w.Node n) l) node c.self.invariant.6 in
-    subst (λ (x : LockedNodeView). AreCountedSince (g.J.Counting.first x.node) (meter c.into_disk.result).own (of_word (w.Node x.node) x.log)) c.self.view_is
-    (subst (λ (d : g.row.D.Denot). AreCountedSince (g.J.Counting.first n) (meter d).own (of_word (w.Node n) l)) (sym c.into_disk.ensures) it)
+    let n = c.args.self.node in
+    subst (λ (l : List Event). AreImages v (facts l) (of_word (w.Node n) l) n (geometry_in v n) (g.D.Disk.image c.close_after.result.0)) (alone new g.J.Naming.earlier g.met.J.Counting.anew)
+    (c.close_after.ensures.images (honest-keeps g.J.Naming.kind honest) new later same)

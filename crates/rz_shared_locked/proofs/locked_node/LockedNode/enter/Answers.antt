@@ -1,4 +1,4 @@
-use Rattle.std.proofs.Common.{◌≡◌, List, refl, sym, ap, ◌∙◌, subst, inl}
+use Rattle.std.proofs.Common.{◌≡◌, List, ◌++◌, refl, sym, ap, ◌∙◌, subst, inl}
 use Rattle.rz_events.specs.declared.events.Word.{Word}
 use Rattle.rz_events.specs.declared.events.Word.TheVariants as w
 use Rattle.rz_events.specs.declared.events.Event.{Event}
@@ -16,6 +16,7 @@ pub invariant_of-self : goal.invariant_of-self
 invariant_of-self g c =
     let kind = g.J.Naming.kind in
     let v = volume_in kind in
+    let earlier = g.J.Naming.earlier in
     let image = g.D.Disk.image in
     let n = c.self.inside.sid in
     let node = c.self.inside.node in
@@ -28,13 +29,15 @@ invariant_of-self g c =
       c.enter.ensures.same.2 ∙ inv.0,
       inv.1,
       inv.2,
-      λ honest. (
-        (inv.3 honest).0,
-        subst (λ (l : List Event). IsLogged image v l n node) (sym c.enter.ensures.one)
-            (entered image kind n node old new (c.locked_node_kept.ensures v) c.room-fit.ensures.fit c.enter.ensures.later.1 same (λ there. (inv.3 there).1) honest),
+      λ keeps. (
+        (inv.3 keeps).0,
+        subst (λ (l : List Event). IsLogged image v (l ++ earlier) n node) (sym c.enter.ensures.one)
+            (entered image kind earlier n node old new (c.locked_node_kept.ensures v)
+            (λ there. c.one_rule.ensures.legal kind earlier old c.room-fit.ensures.earlier there (c.room-fit.ensures.fit, c.room-fit.ensures.after))
+            c.enter.ensures.later.1 same (λ there. (inv.3 there).1) keeps),
       ),
       inv.4,
       inv.5 ∙ ap fuse_of (sym word),
-      subst (λ (v : List Event). GoesWith g.D.Disk.meter (g.J.Counting.first n) v node) (sym word) inv.6,
+      subst (λ (v : List Event). GoesWith g.D.Disk.meter (g.J.Metering.first n) v node) (sym word) inv.6,
       inv.7 ∙ ap pick_of (sym word),
     )
