@@ -19,18 +19,18 @@ use Rattle.rz_run.specs.Clear.{RunCompletes, IsRunFinished}
 use Rattle.rz_run.specs.Handed.{Handed}
 use Rattle.rz_run.specs.Runs.{FollowsRun, IsRunPlayed, IsToldOf, IsUnplayed, PlaysRun}
 
-module _ {D L : Type 0} (tells honest : Bool) (meter : D → Meter) (image : D → List ℕ → Type 0) (count : L → ℕ) (disks : Handed D) (links : Handed L) (sink : Sunk) (status : ℕ) (s : Script)
+module _ {D L : Type 0} (tells : Bool) (meter : D → Meter) (image : D → List ℕ → Type 0) (count : L → ℕ) (disks : Handed D) (links : Handed L) (sink : Sunk) (status : ℕ) (s : Script)
     (sink_whole : ¬ Rises sink.old sink.new) (formatted : IsUnplayed tells meter image s.volume disks links sink status → (index : ℕ) → ¬ IsCause meter disks.old disks.new (faults.Disk index)) where
   -- what the law says of the run
   abbrev Comes : Type 0
-  Comes = ((h : List Event) × IsRunFinished honest meter image count s disks links sink status h) ⊎ Lacks sink status
+  Comes = ((h : List Event) × IsRunFinished tells meter image count s disks links sink status h) ⊎ Lacks sink status
 
   -- no disk failed
   only-lacks : (fault : DriverFault) → IsCause meter disks.old disks.new fault → TellsUnformatted fault sink status → ((index : ℕ) → ¬ IsCause meter disks.old disks.new (faults.Disk index)) → Lacks sink status
   only-lacks faults.NoMemory cause lacks none = lacks
   only-lacks (faults.Disk index) cause refuses none = absurd (none index cause)
 
-  told : (h : List Event) → IsRunPlayed honest meter image count s disks links sink status h → IsToldOf honest s.volume s.lines h sink status → Comes
+  told : (h : List Event) → IsRunPlayed tells meter image count s disks links sink status h → IsToldOf tells s.volume s.lines h sink status → Comes
   told h played (inl (all, inl took)) = inl (
     h,
     record {
@@ -43,19 +43,19 @@ module _ {D L : Type 0} (tells honest : Bool) (meter : D → Meter) (image : D �
   told h played (inl (all, inr failed)) = absurd (sink_whole failed.1)
   told h played (inr (begun, lacks)) = inr lacks
 
-  plays : PlaysRun tells honest meter image count s disks links sink status → Comes
+  plays : PlaysRun tells meter image count s disks links sink status → Comes
   plays (inl unplayed) = inr (only-lacks unplayed.fault unplayed.cause unplayed.told (formatted unplayed))
   plays (inr (h, played)) = told h played played.told
 
-  follows : (r : Result Script Stop) → HasCome s r → FollowsRun tells honest meter image count r disks links sink status → Comes
-  follows (Ok came) is so = plays (subst (λ (x : Script). PlaysRun tells honest meter image count x disks links sink status) is so)
+  follows : (r : Result Script Stop) → HasCome s r → FollowsRun tells meter image count r disks links sink status → Comes
+  follows (Ok came) is so = plays (subst (λ (x : Script). PlaysRun tells meter image count x disks links sink status) is so)
   follows (Err stops.NoMemory) is so = inr so.0
   follows (Err stops.Source) is so = absurd is
   follows (Err (stops.Refused refusal)) is so = absurd is
 
 pub complete : {D L : Type 0} (tells : Bool) (meter : D → Meter) (image : D → List ℕ → Type 0) (count : L → ℕ) → RunCompletes tells meter image count
-complete tells meter image count honest words source disks links sink status (r, asks, so) s clear =
+complete tells meter image count words source disks links sink status (r, asks, so) s clear =
     let text = clear.means in
     let asked : AsksIf true words source (length disks.old) r = subst (λ (b : Bool). AsksIf b words source (length disks.old) r) clear.wanted asks in
     let came = has-come forms.Run source nodes_in (length disks.old) s clear.source_whole text.0 text.1 text.2 text.3 clear.small clear.fits r asked in
-    follows tells honest meter image count disks links sink status s clear.sink_whole clear.formatted r came so
+    follows tells meter image count disks links sink status s clear.sink_whole clear.formatted r came so

@@ -33,17 +33,17 @@ pub record IsRunClear {D L : Type 0} (tells : Bool) (meter : D → Meter) (image
 
 -- The status is 0. The script was played with this log, in which everyone did all that the script gives it, and the sink took the
 -- whole text of the log, with the number of its events.
-pub record IsRunFinished {D L : Type 0} (honest : Bool) (meter : D → Meter) (image : D → List ℕ → Type 0) (count : L → ℕ) (s : Script) (disks : Handed D) (links : Handed L) (sink : Sunk) (status : ℕ) (h : List Event) : Type 0 where
+pub record IsRunFinished {D L : Type 0} (tells : Bool) (meter : D → Meter) (image : D → List ℕ → Type 0) (count : L → ℕ) (s : Script) (disks : Handed D) (links : Handed L) (sink : Sunk) (status : ℕ) (h : List Event) : Type 0 where
   pub status_is : status ≡ 0
-  pub played : IsRunPlayed honest meter image count s disks links sink status h
-  pub all_done : IsAllFinished honest s.volume s.lines h
+  pub played : IsRunPlayed tells meter image count s disks links sink status h
+  pub all_done : IsAllFinished tells s.volume s.lines h
   pub taken : Appends sink.before sink.after (run_text h (length h))
 
 -- Where nothing stands in its way, a run that returns has played the script, everyone to its end, or memory was wanting: what comes of
 -- the words and the source leaves nothing else.
 abbrev pub RunCompletes : {D L : Type 0} → (tells : Bool) → (D → Meter) → (D → List ℕ → Type 0) → (L → ℕ) → Type 0
 RunCompletes {D = D} {L = L} tells meter image count =
-    (honest : Bool) (words : Option Meaning) (source : Reading) (disks : Handed D) (links : Handed L) (sink : Sunk) (status : ℕ)
-    → Runs tells honest meter image count words source disks links sink status
+    (words : Option Meaning) (source : Reading) (disks : Handed D) (links : Handed L) (sink : Sunk) (status : ℕ)
+    → Runs tells meter image count words source disks links sink status
     → (s : Script) → IsRunClear tells meter image words source disks links sink status s
-    → ((h : List Event) × IsRunFinished honest meter image count s disks links sink status h) ⊎ Lacks sink status
+    → ((h : List Event) × IsRunFinished tells meter image count s disks links sink status h) ⊎ Lacks sink status

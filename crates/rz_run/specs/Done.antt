@@ -1,10 +1,12 @@
 -- What the log of a run says of the actors, the newest event first. The run is of the lines of a script of this volume, and its
 -- book is honest or not.
-use Rattle.std.specs.Prelude.{Bool, List, []}
+use Rattle.std.specs.Prelude.{Bool, ◌≡◌, ◌≢◌, ◌⊎◌, List, []}
 use Rattle.std.specs.List.{AllByRecursion}
 use Rattle.rz_events.specs.Volume.{Volume}
 use Rattle.rz_events.specs.declared.keys.Actor.{Actor}
+use Rattle.rz_events.specs.declared.keys.Actor.TheVariants.{Admin}
 use Rattle.rz_events.specs.declared.events.Event.{Event}
+use Rattle.rz_events.specs.Events.{by_of}
 use Rattle.rz_script.specs.declared.line.Line.{Line}
 use Rattle.rz_core.specs.Legal.{IsLegal}
 use Rattle.rz_safety.specs.Rebuilt.{AreRebuilt}
@@ -34,6 +36,14 @@ pub record IsAllFinished (honest : Bool) (v : Volume) (lines : List Line) (h : L
 pub record IsAllBegun (honest : Bool) (v : Volume) (lines : List Line) (h : List Event) : Type 0 where
   pub workers : AllByRecursion (HasBegun honest v lines h) actors
   pub admin : AreLinesBegun (kind_of honest v) lines [] h
+
+-- Those who act: the clients and the rebuilders to whom the lines give an operation, and the administrator.
+abbrev pub ActsFor : List Line → Actor → Type 0
+ActsFor lines by = (by ≡ Admin) ⊎ (given by lines ≢ [])
+
+-- each event of the log is by one of them
+abbrev pub NobodyElseActs : List Line → List Event → Type 0
+NobodyElseActs lines h = AllByRecursion (λ x. ActsFor lines (by_of x)) h
 
 -- The log of an honest book. Each event is allowed after those before it. Each read gives one write's text, no older than what was
 -- acknowledged before it began, and answers unless too many nodes did not. Each write that ends was acknowledged or says why not.

@@ -1,5 +1,5 @@
 //! A script played over a book.
-ghost use Rattle.std.specs.Prelude.{◌≡◌, [], IsTrue, length, map};
+ghost use Rattle.std.specs.Prelude.{◌≡◌, [], length, map};
 ghost use Rattle.std.specs.List.{AllZip};
 ghost use Rattle.rz_disk.specs.Meter.{faults};
 ghost use Rattle.rz_events.specs.declared.keys.Actor.TheVariants as a;
@@ -56,9 +56,9 @@ fn play_setup<
     requires volume { setup.volume ≡ script.now.volume }
     requires known { setup.known ≡ script.now.volume }
     requires count { length disks.items ≡ nodes_in script.now }
-    requires tells { IsTrue (is_honest J.kind) → IsTrue D.tells }
+    requires honest { is_honest J.kind ≡ D.tells }
     requires counts { map J.first (sids_of script.now.volume) ≡ map (λ d. faults (D.meter d)) disks.items }
-    ensures { PlaysRun D.tells (is_honest J.kind) D.meter D.image L.lost script.now (record { old = disks.items; new = result.disks.items }) (record { old = map link_of setup.pool.workers.items; new = result.links.items }) (record { before = O.taken output.old; after = O.taken output.new; old = O.faults output.old; new = O.faults output.new }) result.status }
+    ensures { PlaysRun D.tells D.meter D.image L.lost script.now (record { old = disks.items; new = result.disks.items }) (record { old = map link_of setup.pool.workers.items; new = result.links.items }) (record { before = O.taken output.old; after = O.taken output.new; old = O.faults output.old; new = O.faults output.new }) result.status }
 {
     true_logs();
     read_back();
@@ -126,9 +126,9 @@ pub(crate) fn play_book<
     requires kind { J.kind ≡ kind_of (is_honest J.kind) script.now.volume }
     requires count { length disks.items ≡ nodes_in script.now }
     requires links { length links.items ≡ 80 }
-    requires tells { IsTrue (is_honest J.kind) → IsTrue D.tells }
+    requires honest { is_honest J.kind ≡ D.tells }
     requires counts { map J.first (sids_of script.now.volume) ≡ map (λ d. faults (D.meter d)) disks.items }
-    ensures { PlaysRun D.tells (is_honest J.kind) D.meter D.image L.lost script.now (record { old = disks.items; new = result.disks.items }) (record { old = links.items; new = result.links.items }) (record { before = O.taken output.old; after = O.taken output.new; old = O.faults output.old; new = O.faults output.new }) result.status }
+    ensures { PlaysRun D.tells D.meter D.image L.lost script.now (record { old = disks.items; new = result.disks.items }) (record { old = links.items; new = result.links.items }) (record { before = O.taken output.old; after = O.taken output.new; old = O.faults output.old; new = O.faults output.new }) result.status }
 {
     read_back();
     match set_up::<J, L>(alloc, opened, script, links) {
@@ -162,9 +162,9 @@ pub(crate) fn play_named<
     requires kind { K.kind ≡ kind_of (is_honest K.kind) script.now.volume }
     requires count { length disks.items ≡ nodes_in script.now }
     requires links { length links.items ≡ 80 }
-    requires tells { IsTrue (is_honest K.kind) → IsTrue D.tells }
+    requires honest { is_honest K.kind ≡ D.tells }
     requires counts { map K.first (sids_of script.now.volume) ≡ map (λ d. faults (D.meter d)) disks.items }
-    ensures { PlaysRun D.tells (is_honest K.kind) D.meter D.image L.lost script.now (record { old = disks.items; new = result.disks.items }) (record { old = links.items; new = result.links.items }) (record { before = O.taken output.old; after = O.taken output.new; old = O.faults output.old; new = O.faults output.new }) result.status }
+    ensures { PlaysRun D.tells D.meter D.image L.lost script.now (record { old = disks.items; new = result.disks.items }) (record { old = links.items; new = result.links.items }) (record { before = O.taken output.old; after = O.taken output.new; old = O.faults output.old; new = O.faults output.new }) result.status }
 {
     play_book::<NewName<K>, R, O, D, L>(rt, alloc, opened, script, disks, links, output)
 }

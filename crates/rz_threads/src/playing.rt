@@ -7,7 +7,7 @@ ghost use Rattle.rz_events.specs.declared.events.Word.TheVariants as w;
 ghost use Rattle.rz_script.specs.Lines.{AreLines};
 ghost use Rattle.rz_play.specs.World.{actors};
 ghost use Rattle.rz_chronicle.specs.Keys.{IsLater, sids_of, word_key};
-ghost use Rattle.rz_chronicle.specs.Kinds.{IsFit, volume_in};
+ghost use Rattle.rz_chronicle.specs.Kinds.{HavePlaces, IsFit, volume_in};
 ghost use Rattle.rz_chronicle.specs.Rules.{PassView};
 ghost use Rattle.rz_threads_workers.specs.Gathered.{PassGoesOn, HoldsPass};
 ghost use Rattle.rz_threads_workers.specs.Moves.{HoldsAll};
@@ -122,6 +122,7 @@ pub fn play<R: Threads + Wait + Sync, D: Disk + Send, J: Counting + Send + Sync,
     requires admin { admin.actor ≡ Actor.Admin }
     requires lines { AreLines (volume_in J.kind) lines.now }
     ensures fit { IsFit J.kind result.front.log }
+    ensures places { HavePlaces J.kind result.front.log }
     ensures book { result.book ≡ store.book }
     ensures held { map actor_of pool.workers.items ≡ actors → HoldsAll (sids_of store.cluster) result.front.keys }
     ensures begun { AllByRecursion (HasBegun J.kind result.front.log) pool.workers.items }
@@ -146,6 +147,7 @@ pub fn play<R: Threads + Wait + Sync, D: Disk + Send, J: Counting + Send + Sync,
         shown,
     } = take_results(workers, room);
     let Gathered { front, book, disks } = gather_up(store, passes, admin);
+    let _placed = front.actor();
     PlayResult {
         front,
         book,

@@ -1,6 +1,5 @@
 use Rattle.std.proofs.Common.{◌≡◌, ℕ, List, map, refl, sym, ap, subst, inl}
 use Rattle.std.specs.Global.{Vec}
-use Rattle.rz_chronicle.specs.Kinds.{is_honest}
 use Rattle.rz_report.specs.Output.{Sunk}
 use Rattle.rz_run.specs.Runs.{PlaysRun}
 use Rattle.rz_run.proofs.Told.{lacking, volume-is}
@@ -17,7 +16,7 @@ returns-in-Ok g c =
       old = g.O.Sink.faults c.args.output.now;
       new = g.O.Sink.faults c.play_setup.new.output;
     } in
-    subst (λ (ls : List g.row.L.Denot). PlaysRun g.D.Disk.tells (is_honest g.J.Naming.kind) g.D.Disk.meter g.D.Disk.image g.L.Link.lost c.args.script.now (record { old = c.args.disks.items; new = c.play_setup.result.disks.items })
+    subst (λ (ls : List g.row.L.Denot). PlaysRun g.D.Disk.tells g.D.Disk.meter g.D.Disk.image g.L.Link.lost c.args.script.now (record { old = c.args.disks.items; new = c.play_setup.result.disks.items })
     (record { old = ls; new = c.play_setup.result.links.items }) sink c.play_setup.result.status) c.in-Ok.ensures.links c.play_setup.ensures
 
 pub returns-in-Err : goal.returns-in-Err

@@ -1,4 +1,5 @@
-use Rattle.std.proofs.Common.{◌≡◌, ℕ, List, map, length, sym, ap, ◌∙◌, subst, inl, inr, true}
+use Rattle.std.proofs.Common.{◌≡◌, ℕ, Bool, List, map, length, sym, ap, ◌∙◌, subst, inl, inr, true}
+use Rattle.std.specs.Prelude.{IsTrue}
 use Rattle.std.specs.List.{AllZip}
 use Rattle.std.specs.Global.{Vec}
 use Rattle.rz_disk.specs.Meter.{faults}
@@ -15,9 +16,13 @@ use Rattle.rz_chronicle.specs.Keys.{sids_of}
 use Rattle.rz_chronicle.specs.Kinds.{is_honest, volume_in}
 use Rattle.rz_chronicle.specs.Rules.{PassView}
 use Rattle.rz_threads_workers.specs.Moves.{HoldsAll}
+use Rattle.rz_threads_workers.specs.WorkerPool.{link_of}
 use Rattle.rz_threads.specs.Orders.{AreLinesBegun, AreDone}
 use Rattle.rz_report.specs.Output.{Sunk}
 use Rattle.rz_run.specs.Done.{IsAllFinished}
+use Rattle.rz_run.specs.Handed.{Handed}
+use Rattle.rz_run.specs.Runs.{IsRunPlayed}
+use Rattle.rz_run.proofs.Acting.{nobody-else}
 use Rattle.rz_run.proofs.PoolWorkers.{actors-are, lost-all, ready-all, shown-all}
 use Rattle.rz_run.proofs.Told.{all-begun, all-finished, disks-at, told-of, volume-is}
 use Rattle.rz_run.proofs.playing.play_setup.Goals as goal
@@ -35,6 +40,9 @@ new-requires-clause-nodes g c =
 
 pub new-requires-clause-counts : goal.new-requires-clause-counts
 new-requires-clause-counts g c = subst (λ (v : Volume). map g.J.Metering.first (sids_of v) ≡ map (λ d. faults (g.D.Disk.meter d)) c.args.disks.items) (sym c.requires.volume) c.requires.counts
+
+pub new-requires-clause-tells : goal.new-requires-clause-tells
+new-requires-clause-tells g c = λ honest. subst IsTrue c.requires.honest honest
 
 pub play-front-requires-clause-volume : goal.play-front-requires-clause-volume
 play-front-requires-clause-volume g c κs within = c.requires.known ∙ sym (volume-is c.read_back.ensures g.J.Naming.kind c.args.script.now.volume c.requires.kind)
@@ -77,14 +85,17 @@ returns-in-Ok g c =
     (subst (λ (ls : List Line). AreLinesBegun kind ls c.args.setup.admin.log log) c.lines.ensures.value c.play-front.ensures.ordered) in
     let finished : c.play-front.result.ended ≡ true → IsAllFinished (is_honest kind) v lines log = λ ended. all-finished c.read_back.ensures kind v c.requires.kind lines c.args.setup.pool.workers.items c.requires.staffed c.args.setup.admin c.requires.admin log (c.play-front.ensures.finished ended)
     (subst (λ (ls : List Line). AreDone kind ls c.args.setup.admin.log log) c.lines.ensures.value (c.play-front.ensures.orders ended)) in
+    let disks : Handed g.row.D.Denot = record { old = c.args.disks.items; new = c.play-front.result.disks.items } in
+    let links : Handed g.row.L.Denot = record { old = map link_of c.args.setup.pool.workers.items; new = c.play-front.result.links.items } in
     inr (
       log,
-      record {
+      subst (λ (b : Bool). IsRunPlayed b g.D.Disk.meter g.D.Disk.image g.L.Link.lost c.args.script.now disks links sink c.tell-status.result log) c.requires.honest (record {
         told = told-of (is_honest kind) c.play-front.result.ended v lines log sink c.tell-status.result finished begun c.tell-status.ensures;
+        acting = nobody-else (is_honest kind) v kind lines log c.play-front.ensures.places begun.workers;
         true_log = λ honest. c.true_logs.ensures v log (subst (λ (u : Volume). IsLegal u log) at (c.play-front.ensures.fit honest));
         disks_told = disks-at c.read_back.ensures kind v c.requires.kind g.D.Disk.meter g.D.Disk.image g.J.Metering.first log c.in-Ok.cluster c.args.disks.items c.play-front.result.disks.items c.in-Ok.ensures.volume c.requires.counts c.play-front.ensures.disks;
         links_told = lost-all kind lines log g.L.Link.lost actors c.args.setup.pool.workers.items c.play-front.result.links.items c.requires.staffed c.play-front.ensures.links;
-      },
+      }),
     )
 
 pub returns-in-Err : goal.returns-in-Err

@@ -15,17 +15,16 @@ use Rattle.rz_run.proofs.running.play_script.Goals as goal
 
 pub play_named-requires-clause-kind : goal.play_named-requires-clause-kind
 play_named-requires-clause-kind g c κs within =
-    kind-is c.read_back.ensures c.args.honest c.args.script.now.volume c.in-Ok.opened.tokens.kind (c.in-Ok.ensures ∙ ap (kind_of c.args.honest) c.volume-volume.ensures)
+    kind-is c.read_back.ensures g.D.Disk.tells c.args.script.now.volume c.in-Ok.opened.tokens.kind (c.in-Ok.ensures ∙ ap (kind_of g.D.Disk.tells) c.volume-volume.ensures)
 
 pub play_named-requires-clause-earlier : goal.play_named-requires-clause-earlier
 play_named-requires-clause-earlier g c κs within =
-    subst (λ (k : List ℕ). HasEarlierLog k []) (sym (c.in-Ok.ensures ∙ ap (kind_of c.args.honest) c.volume-volume.ensures))
-    ((c.read_back_after.ensures c.args.honest c.args.script.now.volume []).2 (omega arith))
+    subst (λ (k : List ℕ). HasEarlierLog k []) (sym (c.in-Ok.ensures ∙ ap (kind_of g.D.Disk.tells) c.volume-volume.ensures))
+    ((c.read_back_after.ensures g.D.Disk.tells c.args.script.now.volume []).2 (omega arith))
 
-pub play_named-requires-clause-tells : goal.play_named-requires-clause-tells
-play_named-requires-clause-tells g c κs within =
-    let same = honest-is c.read_back.ensures c.args.honest c.args.script.now.volume c.in-Ok.opened.tokens.kind (c.in-Ok.ensures ∙ ap (kind_of c.args.honest) c.volume-volume.ensures) in
-    subst (λ (b : Bool). IsTrue b → IsTrue g.D.Disk.tells) (sym same) c.requires.tells
+pub play_named-requires-clause-honest : goal.play_named-requires-clause-honest
+play_named-requires-clause-honest g c κs within =
+    honest-is c.read_back.ensures g.D.Disk.tells c.args.script.now.volume c.in-Ok.opened.tokens.kind (c.in-Ok.ensures ∙ ap (kind_of g.D.Disk.tells) c.volume-volume.ensures)
 
 pub play_named-requires-clause-counts : goal.play_named-requires-clause-counts
 play_named-requires-clause-counts g c κs within =
@@ -34,18 +33,6 @@ play_named-requires-clause-counts g c κs within =
     let same : length (sids_of v) ≡ length (map (λ d. faults (g.D.Disk.meter d)) c.args.disks.items) =
     length-map (nodes_of v.clusters) (λ (n : NodeSpec). n.sid) ∙ (sym c.requires.count ∙ sym (length-map c.args.disks.items (λ d. faults (g.D.Disk.meter d)))) in
     beside-all (sids_of v) (map (λ d. faults (g.D.Disk.meter d)) c.args.disks.items) distinct same
-
-pub returns-in-Ok : goal.returns-in-Ok
-returns-in-Ok g c =
-    let sink : Sunk = record {
-      before = g.O.Sink.taken c.args.output.now;
-      after = g.O.Sink.taken c.play_named.new.output;
-      old = g.O.Sink.faults c.args.output.now;
-      new = g.O.Sink.faults c.play_named.new.output;
-    } in
-    let same = honest-is c.read_back.ensures c.args.honest c.args.script.now.volume c.in-Ok.opened.tokens.kind (c.in-Ok.ensures ∙ ap (kind_of c.args.honest) c.volume-volume.ensures) in
-    subst (λ (b : Bool). PlaysRun g.D.Disk.tells b g.D.Disk.meter g.D.Disk.image g.L.Link.lost c.args.script.now (record { old = c.args.disks.items; new = c.play_named.result.disks.items })
-    (record { old = c.args.links.items; new = c.play_named.result.links.items }) sink c.play_named.result.status) same c.play_named.ensures
 
 pub returns-in-Err : goal.returns-in-Err
 returns-in-Err g c =

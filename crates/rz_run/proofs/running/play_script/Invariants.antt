@@ -1,4 +1,4 @@
-use Rattle.std.proofs.Common.{map}
+use Rattle.std.proofs.Common.{[], map}
 use Rattle.rz_disk.specs.Meter.{faults}
 use Rattle.rz_chronicle.specs.Keys.{sids_of}
 use Rattle.rz_run.proofs.Firsts.{beside}
@@ -13,3 +13,7 @@ ghosts-play_named g a = record {
   kind = a.opened.tokens.kind;
   first = beside (sids_of a.script.now.volume) (map (λ d. faults (g.D.Disk.meter d)) a.disks.items);
 }
+
+-- it is honest where the disks tell what they hold, and its log begins anew
+abbrev pub ghosts-after : goal.ghosts-after
+ghosts-after g a = record { honest = g.D.Disk.tells; earlier = [] }
