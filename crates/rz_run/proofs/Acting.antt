@@ -2,7 +2,6 @@
 use Rattle.std.proofs.Common.{ℕ, Bool, true, ◌≡◌, List, [], ◌∷◌, ◌++◌, cond, refl, sym, ap, ◌∙◌, subst, inl, inr}
 use Rattle.std.specs.List.{AllByRecursion}
 use Rattle.std.proofs.lemmas.Bool.{eq-eqb}
-use Rattle.mj_angles.specs.declared.layout.Layout.{Layout}
 use Rattle.rz_events.specs.Volume.{Volume}
 use Rattle.rz_events.specs.Events.{by_of, same_actor}
 use Rattle.rz_events.specs.declared.keys.Actor.{Actor}
@@ -25,16 +24,16 @@ use Rattle.rz_run.specs.Done.{ActsFor, HasBegun, NobodyElseActs}
 
 -- An actor that is given nothing.
 
-module _ (honest : Bool) (layout : Layout) (by : Actor) where
+module _ (honest : Bool) (v : Volume) (by : Actor) where
   -- it takes no turn
-  no-turns : (from s : Agenda) (run : List Event) → from ≡ agenda_with [] → IsDoing honest layout by from run s → (run ≡ []) × (s ≡ from)
+  no-turns : (from s : Agenda) (run : List Event) → from ≡ agenda_with [] → IsDoing honest v.layout by from run s → (run ≡ []) × (s ≡ from)
   no-turns from s run none Begins = (refl, refl)
   no-turns from s run none (Turns before mid t xs work first step goes) =
       let at : mid ≡ agenda_with [] = (no-turns from mid before none first).1 ∙ none in
-      absurd (subst (λ (z : Agenda). IsStep by (at_work z).number (ask_of layout (at_work z).work) t xs) at step)
+      absurd (subst (λ (z : Agenda). IsStep by (at_work z).number (ask_of v.layout (at_work z).work) t xs) at step)
 
   -- so it has no event
-  no-events : (ops : List Operation) (h : List Event) → ops ≡ [] → IsSomeDone honest layout by (agenda_with ops) [] h → of_actor by h ≡ []
+  no-events : (ops : List Operation) (h : List Event) → ops ≡ [] → IsSomeDone honest v.layout by (agenda_with ops) [] h → of_actor by h ≡ []
   no-events ops h none done =
       let still = no-turns (agenda_with ops) done.0 done.1.run (ap agenda_with none) done.1.doing in
       done.1.own ∙ ap (λ (run : List Event). run ++ []) still.0
@@ -79,4 +78,4 @@ module _ (kind : List ℕ) (lines : List Line) where
 -- each did a beginning of what it was given
 pub nobody-else : (honest : Bool) (v : Volume) (kind : List ℕ) (lines : List Line) (h : List Event) → HavePlaces kind h → AllByRecursion (HasBegun honest v lines h) actors → NobodyElseActs lines h
 nobody-else honest v kind lines h places begun =
-    acts-all kind lines h places (λ a ok none. no-events honest v.layout a (given a lines) h none (of-actors (HasBegun honest v lines h) a ok begun))
+    acts-all kind lines h places (λ a ok none. no-events honest v a (given a lines) h none (of-actors (HasBegun honest v lines h) a ok begun))

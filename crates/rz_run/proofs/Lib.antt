@@ -1,3 +1,4 @@
+mod Acting
 pub mod Firsts
 pub mod PoolWorkers
 pub mod Told
