@@ -11,7 +11,7 @@ use Rattle.rz_threads.proofs.beside.work_all.Goals as goal
 
 pub for_each_mut-requires-sync-F : goal.for_each_mut-requires-sync-F
 for_each_mut-requires-sync-F g c κs within = three-shared _ (shr_sync _ _ _ c.type_bounds.sync-R) sync
-    (shr_sync _ _ _ (store_sync (param 1 g.row.D) (param 2 g.row.J) g.D.Disk g.J.Counting g.J.Metering g.J.Naming c.type_bounds.send-D))
+    (shr_sync _ _ _ (store_sync (param 1 g.row.D) (param 2 g.row.J) g.D.Disk g.J.Metering g.J.Naming c.type_bounds.send-D))
 
 pub for_each_mut-requires-clause-accepts : goal.for_each_mut-requires-clause-accepts
 for_each_mut-requires-clause-accepts g c κs within = λ i p lt is. (
