@@ -105,6 +105,36 @@ static void groups_of_eight(void) {
     want(out[16 * WORDS - 1], 0, "the last word of eight");
 }
 
+/* Two blocks whose fragments stand 300 and 400 words apart: the second of them has no words. */
+static void fragments_apart(uint64_t *room, size_t lent) {
+    static const struct { uint32_t layout, positions[2]; size_t count, parts, strides, short_by, words, blocks, room, answer; } rows[] = {
+        {12, {0, 1}, 2, 2, 2, 0, 2 * WORDS, 2, 0, MJ_C_BAD_LAYOUT},   {0, {4, 0}, 2, 2, 2, 0, 2 * WORDS, 2, 0, MJ_C_BAD_POSITION},
+        {0, {1, 0}, 2, 2, 2, 0, 2 * WORDS, 2, 0, MJ_C_NOT_ASCENDING}, {0, {0, 1}, 1, 1, 1, 0, 2 * WORDS, 2, 0, MJ_C_BAD_LENGTH},
+        {0, {0, 1}, 2, 1, 2, 0, 2 * WORDS, 2, 0, MJ_C_BAD_LENGTH},    {0, {0, 1}, 2, 2, 1, 0, 2 * WORDS, 2, 0, MJ_C_BAD_LENGTH},
+        {0, {0, 1}, 2, 2, 2, 1, 2 * WORDS, 2, 0, MJ_C_BAD_LENGTH},    {0, {0, 1}, 2, 2, 2, 0, 2 * WORDS, 3, 0, MJ_C_BAD_LENGTH},
+        {0, {0, 1}, 2, 2, 2, 0, 2 * WORDS, 2, 1, MJ_C_BAD_LENGTH},    {0, {0, 1}, 2, 2, 2, 0, 2 * WORDS, 2, 0, MJ_C_DONE},
+        {0, {0, 1}, 2, 0, 0, 0, 0, 0, 0, MJ_C_DONE},
+    };
+    static uint64_t first[300 + FIRST], second[400 + SECOND];
+    static const size_t strides[] = {300, 400};
+    first[2] = first[302] = second[1] = second[401] = 1;
+    first[299] = 7;
+    second[400 + SECOND - 1] = 1;
+    for (size_t i = 0; i < sizeof rows / sizeof *rows; i++) {
+        struct mj_c_part parts[2] = {{first, 300 + FIRST}, {second, 400 + SECOND - rows[i].short_by}};
+        uint8_t lost[3] = {9, 9, 9};
+        fill(out, 2 * WORDS, 7);
+        want(mj_c_solve_apart_in(rows[i].layout, rows[i].positions, rows[i].count, parts, rows[i].parts, strides, rows[i].strides,
+                                 out, rows[i].words, lost, rows[i].blocks, room, lent - rows[i].room), rows[i].answer, "solve_apart_in");
+        int found = rows[i].answer == MJ_C_DONE && rows[i].blocks == 2;
+        want(out[0], found ? 1 : 7, "a block whose fragments stand apart");
+        want(out[1], found ? 0 : 7, "its second word");
+        want(out[WORDS], 7, "a block beside it that has no words");
+        want(lost[0], found ? 0 : 9, "the byte of a block apart");
+        want(lost[1], found ? 1 : 9, "the byte of a block apart that has no words");
+    }
+}
+
 /* What is refused in room that is lent, and what is done, whatever the room holds. */
 static void in_lent_room(void) {
     static const uint32_t positions[] = {0, 1};
@@ -133,6 +163,7 @@ static void in_lent_room(void) {
         want(lost[0], found ? 1 : 9, "the byte of a block that has no words");
         want(lost[1], found ? 0 : 9, "the byte of a block beside it");
     }
+    fragments_apart(room, lent);
     uint8_t answers[2] = {9, 9};
     fill(bins, 2 * GROUP, 0);
     bins[GROUP + 3] = 1;

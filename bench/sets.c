@@ -55,6 +55,29 @@ static void many(const struct set *s, size_t bad) {
     }
 }
 
+/* The same, each position's bins in a list of their own, with two words between blocks. */
+static void stand_apart(const struct set *s, size_t bad) {
+    static uint64_t apart[SET][BLOCKS * (BINS + 2)];
+    struct mj_c_part parts[SET];
+    size_t strides[SET], from = 0;
+    uint8_t lost[BLOCKS];
+    for (size_t n = 0; n < s->count; n++) {
+        size_t some = mj_c_bins(s->layout, s->positions[n]);
+        strides[n] = some + 2;
+        for (size_t i = 0; i < BLOCKS; i++) memcpy(apart[n] + i * strides[n], bins + i * s->each + from, some * 8);
+        parts[n] = (struct mj_c_part){apart[n], BLOCKS * strides[n] - 2};
+        from += some;
+    }
+    fill(out, BLOCKS * s->words);
+    memset(lost, 7, sizeof lost);
+    want(mj_c_solve_apart_in(s->layout, s->positions, s->count, parts, s->count, strides, s->count, out, BLOCKS * s->words, lost,
+                             BLOCKS, room, room_words) == MJ_C_DONE, "solve_apart_in", s->layout, s->mask);
+    for (size_t i = 0; i < BLOCKS; i++) {
+        want(lost[i] == (i == bad), "solve_apart_in names another block", s->layout, s->mask);
+        want(i == bad ? is_kept(s, i) : is_back(s, i), "solve_apart_in writes another block", s->layout, s->mask);
+    }
+}
+
 /* Eight blocks side by side. */
 static void side_by_side(const struct set *s, size_t bad, int lent) {
     uint8_t answer = 7;
@@ -93,6 +116,7 @@ static void damaged(const struct set *s, size_t bad, size_t b) {
     bins[bad * s->each + b] ^= bit;
     one(s, bad, MJ_C_INCONSISTENT);
     many(s, bad);
+    stand_apart(s, bad);
     side_by_side(s, bad, 1);
     bins[bad * s->each + b] ^= bit;
 }
@@ -120,6 +144,7 @@ static void choose(struct set *s, uint32_t layout, const struct mj_c_numbers *n,
 static void try_set(const struct set *s, size_t number) {
     one(s, noise() % BLOCKS, MJ_C_DONE);
     many(s, BLOCKS);
+    stand_apart(s, BLOCKS);
     damaged(s, noise() % BLOCKS, noise() % s->each);
     if (number % 8) return;
     taken(s, MJ_C_DONE);

@@ -91,6 +91,19 @@ static void solve_many(struct job *j) {
     }
 }
 
+static void solve_apart(struct job *j) {
+    struct mj_c_part parts[MOST];
+    uint8_t lost[GROUP];
+    size_t rows = j->n.inverse;
+    for (size_t b = 0; b < j->blocks; b += GROUP) {
+        for (size_t i = 0; i < rows; i++)
+            parts[i] = (struct mj_c_part){j->parts[i] + b * j->part[i], GROUP * j->part[i]};
+        want(mj_c_solve_apart_in(j->layout, j->positions, rows, parts, rows, j->part, rows, j->to + b * j->words, GROUP * j->words,
+                                 lost, GROUP, j->room, j->room_words), "mj_c_solve_apart_in");
+        for (size_t i = 0; i < GROUP; i++) want(lost[i], "a block of mj_c_solve_apart_in");
+    }
+}
+
 static void solve_lent(struct job *j) {
     uint8_t lost[GROUP];
     for (size_t b = 0; b < j->blocks; b += GROUP) {
@@ -163,7 +176,7 @@ struct line {
 
 static struct line lines[LINES] = {
     {"memcpy", copy, 1, 0},       {"encode", encode, 0, 0},          {"solve", solve, 1, 0},
-    {"many", solve_many, 1, 0},   {"lent", solve_lent, 1, 0},
+    {"many", solve_many, 1, 0},   {"lent", solve_lent, 1, 0},        {"apart", solve_apart, 1, 0},
 #ifdef HAVE_ISAL
     {"avx2 enc", avx2_encode, 0, 0}, {"avx2 dec", avx2_decode, 1, 0},
     {"isal enc", isal_encode, 0, 0}, {"isal dec", isal_decode, 1, 0},

@@ -8,7 +8,7 @@
  * Bytes. Words are added by exclusive or alone, so the byte order of the machine does not matter: what one
  * machine projects, another of the other order finds, byte for byte.
  *
- * Pointers. Each is followed by the number of things that it points to: words, positions, or bytes (of
+ * Pointers. Each is followed by the number of things that it points to: words, positions, parts, strides, or bytes (of
  * `lost` and `answers`). mj_c_numbers alone takes one struct. NULL with 0 is fine. Nothing is aligned beyond its type. `out`, `lost`,
  * `answers` and `room` overlap nothing else.
  *
@@ -101,12 +101,25 @@ uint32_t mj_c_solve(uint32_t layout, const uint32_t *positions, size_t count, co
 uint32_t mj_c_solve_many(uint32_t layout, const uint32_t *positions, size_t count,
                          const uint64_t *bins, size_t all, uint64_t *out, size_t words);
 
-/* The same of as many blocks as `lost` has bytes, in room that is lent, eight blocks at a time, which takes as
- * long for one to seven as for eight. The byte of a block that has no words becomes 1, and its place in `out` stays
+/* The same of as many blocks as `lost` has bytes, in room that is lent, four blocks at a time, which takes as
+ * long for one to three as for four. The byte of a block that has no words becomes 1, and its place in `out` stays
  * as it was; the other bytes become 0. It answers MJ_C_DONE also where some are 1. */
 uint32_t mj_c_solve_many_in(uint32_t layout, const uint32_t *positions, size_t count,
                             const uint64_t *bins, size_t all, uint64_t *out, size_t words,
                             uint8_t *lost, size_t blocks, uint64_t *room, size_t room_words);
+
+/* Words in memory of the caller's. */
+struct mj_c_part {
+    const uint64_t *at;
+    size_t words;
+};
+
+/* The same of blocks whose fragments stand apart, as stores have them: parts[n] has the projections at
+ * positions[n], and in it those of block i begin at word i * strides[n]. Each part has the words up to the end of the
+ * last block's, or MJ_C_BAD_LENGTH is answered; a stride may have any length. */
+uint32_t mj_c_solve_apart_in(uint32_t layout, const uint32_t *positions, size_t count,
+                             const struct mj_c_part *parts, size_t parts_count, const size_t *strides, size_t strides_count,
+                             uint64_t *out, size_t words, uint8_t *lost, size_t blocks, uint64_t *room, size_t room_words);
 
 /* Writes the blocks of `groups` groups of eight side by side, and a byte for each group into `answers`:
  * bit i is 1 where block i of the group has no words, and these are any words then. In a group word j of

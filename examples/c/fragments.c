@@ -10,7 +10,7 @@
 #include <stdlib.h>
 #include <string.h>
 
-enum { LAYOUT = 1, GROUP = 8, HEADER = 8, BEFORE = 1 };
+enum { LAYOUT = 1, HEADER = 8, BEFORE = 1 };
 
 static struct mj_c_numbers numbers;
 static size_t block_words;
@@ -91,49 +91,38 @@ static int read_fragment(const char *folder, unsigned position, struct fragment 
     return 0;
 }
 
-/* The bins of up to eight blocks, block after block, from fragments that have them apart. */
-static size_t gather(const struct fragment *have, size_t first, size_t count, uint64_t *bins) {
-    uint64_t *to = bins;
-    for (size_t b = first; b < first + count; b++)
-        for (size_t i = 0; i < numbers.inverse; i++) {
-            const uint64_t *record = have[i].words + HEADER + b * (BEFORE + have[i].bins);
-            memcpy(to, record + BEFORE, have[i].bins * 8);
-            to += have[i].bins;
-        }
-    return (size_t)(to - bins);
-}
-
 static void decode(const char *folder, const char *to) {
     uint32_t positions[16];
     struct fragment have[16];
-    size_t count = 0, each = 0;
+    struct mj_c_part parts[16];
+    size_t strides[16], count = 0;
     for (unsigned position = 0; position < numbers.forward && count < numbers.inverse; position++)
         if (read_fragment(folder, position, &have[count])) {
             if (count && have[count].bytes != have[0].bytes) stop("fragments of two files in", folder);
-            each += have[count].bins;
+            strides[count] = BEFORE + have[count].bins;
+            parts[count].at = have[count].words + HEADER + BEFORE;
+            parts[count].words = blocks_in(have[count].bytes) * strides[count];
+            if (parts[count].words) parts[count].words -= BEFORE;
             positions[count++] = position;
         }
     if (count < numbers.inverse) stop("too few fragments in", folder);
     size_t bytes = have[0].bytes, blocks = blocks_in(bytes), lent = mj_c_room(LAYOUT);
-    uint64_t *words = room_for(blocks * block_words, 8), *bins = room_for(GROUP * each, 8), *room = room_for(lent, 8);
-    for (size_t first = 0; first < blocks; first += GROUP) {
-        uint8_t lost[GROUP];
-        size_t some = blocks - first < GROUP ? blocks - first : GROUP, all = gather(have, first, some, bins);
-        if (mj_c_solve_many_in(LAYOUT, positions, count, bins, all, words + first * block_words, some * block_words, lost, some,
-                               room, lent) != MJ_C_DONE)
-            stop("not found:", to);
-        for (size_t i = 0; i < some; i++)
-            if (lost[i]) {
-                fprintf(stderr, "fragments: block %zu is damaged\n", first + i);
-                exit(1);
-            }
-    }
+    uint64_t *words = room_for(blocks * block_words, 8), *room = room_for(lent, 8);
+    uint8_t *lost = room_for(blocks, 1);
+    if (mj_c_solve_apart_in(LAYOUT, positions, count, parts, count, strides, count, words, blocks * block_words, lost, blocks,
+                            room, lent) != MJ_C_DONE)
+        stop("not found:", to);
+    for (size_t i = 0; i < blocks; i++)
+        if (lost[i]) {
+            fprintf(stderr, "fragments: block %zu is damaged\n", i);
+            exit(1);
+        }
     FILE *out = fopen(to, "wb");
     if (!out || fwrite(words, 1, bytes, out) != bytes || fclose(out)) stop("cannot write", to);
     while (count) free(have[--count].words);
     free(words);
-    free(bins);
     free(room);
+    free(lost);
 }
 
 int main(int argc, char **argv) {

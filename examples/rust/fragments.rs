@@ -15,17 +15,26 @@ struct Numbers {
     cols: u32,
 }
 
+/// Words of a fragment.
+#[repr(C)]
+struct Part {
+    at: *const u64,
+    words: usize,
+}
+
 extern "C" {
     fn mj_c_numbers(layout: u32, numbers: *mut Numbers) -> u32;
     fn mj_c_bins(layout: u32, position: u32) -> usize;
     fn mj_c_room(layout: u32) -> usize;
     fn mj_c_project(layout: u32, position: u32, block: *const u64, words: usize, out: *mut u64, bins: usize) -> u32;
-    fn mj_c_solve_many_in(
+    fn mj_c_solve_apart_in(
         layout: u32,
         positions: *const u32,
         count: usize,
-        bins: *const u64,
-        all: usize,
+        parts: *const Part,
+        parts_count: usize,
+        strides: *const usize,
+        strides_count: usize,
         out: *mut u64,
         words: usize,
         lost: *mut u8,
@@ -83,23 +92,20 @@ impl Code {
 
     /// The blocks whose fragments these are, and a byte for each that is 1 where it has no words.
     fn decode(&mut self, positions: &[u32], fragments: &[&[u64]], blocks: usize) -> Result<(Vec<u64>, Vec<u8>), Refused> {
-        let mut bins = Vec::new();
-        for block in 0..blocks {
-            for (position, fragment) in positions.iter().zip(fragments) {
-                let each = self.bins(*position);
-                bins.extend_from_slice(&fragment[block * each..(block + 1) * each]);
-            }
-        }
+        let parts: Vec<Part> = fragments.iter().map(|f| Part { at: f.as_ptr(), words: f.len() }).collect();
+        let strides: Vec<usize> = positions.iter().map(|position| self.bins(*position)).collect();
         let mut words = vec![0; blocks * self.block_words()];
         let mut lost = vec![0; blocks];
         // SAFETY: each pointer is followed by the length of its slice, and no two of them overlap.
         done(unsafe {
-            mj_c_solve_many_in(
+            mj_c_solve_apart_in(
                 self.layout,
                 positions.as_ptr(),
                 positions.len(),
-                bins.as_ptr(),
-                bins.len(),
+                parts.as_ptr(),
+                parts.len(),
+                strides.as_ptr(),
+                strides.len(),
                 words.as_mut_ptr(),
                 words.len(),
                 lost.as_mut_ptr(),

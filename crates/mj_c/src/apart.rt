@@ -1,82 +1,93 @@
-//! Blocks brought side by side, eight at a time, and taken apart again.
+//! Inversions of many blocks whose fragments stand apart, in room that the caller lends.
 
-ghost use Rattle.std.specs.Prelude.{◌≡◌, ◌≤◌, ◌<◌, ◌+◌, ◌*◌, ℕ, length, slice_index};
-ghost use Rattle.rz_words.specs.Grid.{IsShape};
-ghost use Rattle.mj_inverse.specs.Padded.{IsTaken, inner, width_of};
+ghost use Rattle.std.specs.Prelude.{◌≡◌, ◌≢◌, ◌<◌, ◌≤◌, ◌+◌, ◌-◌, ◌*◌, ℕ, true, map, nat_lt, nat_le, length, slice_index, IfSome};
+ghost use Rattle.std.specs.List.{list_all};
+ghost use Rattle.mj_angles.specs.Layout.{inverse_of, cols_of, safe_of, angle_of, bins_at_of};
+ghost use Rattle.mj_inverse_four.specs.Fragments.{fragment_search};
+ghost use Rattle.mj_c.specs.Layouts.{IsKnown, layout_at, part_of};
+ghost use Rattle.mj_c.specs.Answers.{apart_refusal, are_long as long_enough};
 
-use crate::square::put_square;
-use mj_inverse::Frame;
+use crate::Answer;
+use crate::fragments::find_in;
+use crate::inverse::{are_positions, is_ascending};
+use crate::layouts::layout_of;
+use crate::many::is_product;
+use crate::room::room_words;
+use mj_angles::Layout;
 
-/// Writes so many words of each of eight blocks side by side from place `at` on. Those of block `i` begin at `starts[i]`.
-pub fn bring_together(words: &[u64], starts: &[usize], n: usize, out: &mut [u64], at: usize)
-    requires starts { length starts.now ≡ 8 }
-    requires within { (i : ℕ) → i < 8 → slice_index starts.now i + n ≤ length words.now }
-    requires out { 8 * (at + n) ≤ length out.old }
-    ensures inside { (k i : ℕ) → k < n → i < 8 → slice_index out.new (8 * (at + k) + i) ≡ slice_index words.now (slice_index starts.now i + k) }
-    ensures below { (k : ℕ) → k < 8 * at → slice_index out.new k ≡ slice_index out.old k }
+/// Tests everything, and looks for as many blocks as `lost` has bytes.
+pub fn solve_apart_in_at(
+    layout: u32,
+    positions: &[u32],
+    parts: &[&[u64]],
+    strides: &[usize],
+    out: &mut [u64],
+    lost: &mut [u8],
+    room: &mut [u64],
+) -> Answer
+    ensures refused { let refusal = apart_refusal (layout_at layout) positions.now parts.now strides.now (length out.old) (length lost.old) (length room.old) in
+        refusal ≢ Answer.Done → result ≡ refusal }
+    ensures done { apart_refusal (layout_at layout) positions.now parts.now strides.now (length out.old) (length lost.old) (length room.old) ≡ Answer.Done → result ≡ Answer.Done }
+    ensures known { result ≡ Answer.Done → IfSome (layout_at layout)
+        (λ y. (i : ℕ) → i < length lost.old → IsKnown y (fragment_search (inverse_of y) (cols_of y) (map (angle_of y) positions.now) parts.now strides.now i)
+        (part_of y out.old i) (part_of y out.new i) (slice_index lost.new i)) }
+    ensures unchanged { result ≢ Answer.Done → out.new ≡ out.old }
+    ensures unnamed { result ≢ Answer.Done → lost.new ≡ lost.old }
 {
-    let mut k = 0;
-    'fours: while n - k >= 4 {
-        put_fours(words, starts, k, out, 8 * (at + k));
-        k += 4;
+    let Some(layout) = layout_of(layout) else {
+        return Answer::BadLayout;
+    };
+    if !are_positions(layout, positions) {
+        return Answer::BadPosition;
     }
-    'rest: for j in k..n {
-        put_eight(words, starts, j, out, 8 * (at + j));
+    if !is_ascending(layout, positions) {
+        return Answer::NotAscending;
+    }
+    let words = layout.inverse() * layout.cols();
+    if positions.len() != layout.inverse() || !is_product(out.len(), lost.len(), words) {
+        return Answer::BadLength;
+    }
+    if lost.len() > 0 && !are_long(layout, positions, parts, strides, lost.len() - 1) {
+        return Answer::BadLength;
+    }
+    if room.len() < room_words(layout) {
+        return Answer::BadLength;
+    }
+    find_in(layout, positions, parts, strides, out, lost, room);
+    Answer::Done
+}
+
+/// Whether each position has a list of words with the bins of all blocks up to number `last`, a stride apart.
+fn are_long(
+    layout: Layout,
+    positions: &[u32],
+    parts: &[&[u64]],
+    strides: &[usize],
+    last: usize,
+) -> bool
+    requires { list_all (λ i. nat_lt i (safe_of layout)) positions.now ≡ true }
+    ensures { result ≡ long_enough layout last positions.now parts.now strides.now }
+{
+    match (
+        positions.split_first(),
+        parts.split_first(),
+        strides.split_first(),
+    ) {
+        (Some((position, positions)), Some((part, parts)), Some((stride, strides))) => {
+            is_long(part.len(), last, *stride, layout.bins_at(*position as u8))
+                && are_long(layout, positions, parts, strides, last)
+        }
+        (None, None, None) => true,
+        _ => false,
     }
 }
 
-/// Writes the words `k` to `k + 3` of each of eight blocks from place `to` on.
-#[inline(always)]
-fn put_fours(words: &[u64], starts: &[usize], k: usize, out: &mut [u64], to: usize)
-    requires starts { length starts.now ≡ 8 }
-    requires word { (i : ℕ) → i < 8 → slice_index starts.now i + (k + 4) ≤ length words.now }
-    requires out { to + 32 ≤ length out.old }
-    ensures here { (r i : ℕ) → r < 4 → i < 8 → slice_index out.new (to + 8 * r + i) ≡ slice_index words.now (slice_index starts.now i + (k + r)) }
-    ensures below { (m : ℕ) → m < to → slice_index out.new m ≡ slice_index out.old m }
+/// Whether so many words have the bins of block `last`.
+fn is_long(words: usize, last: usize, stride: usize, bins: usize) -> bool
+    ensures { result ≡ nat_le (last * stride + bins) words }
 {
-    put_square(words, starts, 0, k, out, to);
-    put_square(words, starts, 4, k, out, to + 4);
-}
-
-/// Writes word `k` of each of eight blocks from place `to` on.
-#[inline(always)]
-fn put_eight(words: &[u64], starts: &[usize], k: usize, out: &mut [u64], to: usize)
-    requires starts { length starts.now ≡ 8 }
-    requires word { (i : ℕ) → i < 8 → slice_index starts.now i + k < length words.now }
-    requires out { to + 8 ≤ length out.old }
-    ensures here { (i : ℕ) → i < 8 → slice_index out.new (to + i) ≡ slice_index words.now (slice_index starts.now i + k) }
-    ensures below { (m : ℕ) → m < to → slice_index out.new m ≡ slice_index out.old m }
-{
-    for i in 0..8 {
-        out[to + i] = words[starts[i] + k];
-    }
-}
-
-/// Writes the words of block `i` of eight that stand in `grid`.
-pub fn take_one(grid: &[u64], i: usize, frame: Frame, out: &mut [u64])
-    requires few { i < 8 }
-    requires shape { IsShape frame.rows frame.cols }
-    requires reach { frame.reach ≤ 256 }
-    requires room { length grid.now ≡ 8 * (frame.rows * width_of frame.cols frame.reach) }
-    requires out { length out.old ≡ frame.rows * frame.cols }
-    ensures { IsTaken frame.rows frame.cols frame.reach grid.now i out.new }
-{
-    for l in 0..frame.rows {
-        let from = 8 * (l * frame.width() + frame.reach) + i;
-        take_row(
-            grid,
-            from,
-            &mut out[l * frame.cols..l * frame.cols + frame.cols],
-        );
-    }
-}
-
-/// Writes each eighth word from place `from` on.
-fn take_row(grid: &[u64], from: usize, out: &mut [u64])
-    requires { (k : ℕ) → k < length out.old → from + 8 * k < length grid.now }
-    ensures { (k : ℕ) → k < length out.old → slice_index out.new k ≡ slice_index grid.now (from + 8 * k) }
-{
-    for k in 0..out.len() {
-        out[k] = grid[from + 8 * k];
+    match last.checked_mul(stride) {
+        Some(start) => bins <= words && start <= words - bins,
+        None => false,
     }
 }

@@ -1,68 +1,65 @@
-//! Up to eight blocks whose bins stand side by side.
+//! Up to four blocks that are looked for together.
 
-ghost use Rattle.std.specs.Prelude.{◌≡◌, ◌≤◌, ◌<◌, ◌+◌, ◌*◌, ◌/◌, ◌%◌, ◌^◌, ℕ, List, true, map, nat_lt, length, slice_index};
-ghost use Rattle.std.specs.List.{list_all, sum_by};
-ghost use Rattle.mj_angles.specs.Layout.{inverse_of, cols_of, safe_of, angle_of, bins_at_of};
-ghost use Rattle.mj_inverse.specs.Padded.{IsTaken};
-ghost use Rattle.mj_c.specs.Layouts.{IsDealt, IsDone, IsKnown, part_of, reach_of, rows_room_of, search_of, words_of};
-ghost use Rattle.mj_c.specs.Answers.{is_ascending_from};
+ghost use Rattle.std.specs.Prelude.{◌≡◌, ◌≤◌, ◌<◌, ◌+◌, ◌-◌, ◌*◌, ◌/◌, ◌%◌, ◌^◌, ℕ, length, slice_index};
+ghost use Rattle.mj_angles.specs.Layout.{inverse_of, cols_of};
+ghost use Rattle.mj_inverse_four.specs.Fragments.{AreAngles, AreThere, fragment_search};
+ghost use Rattle.mj_inverse_four.specs.Rows.{IsTaken};
+ghost use Rattle.mj_c.specs.Layouts.{IsDealt, IsDone, IsKnown, four_room_of, part_of, reach_of, words_of};
 
-use crate::apart::take_one;
-use crate::room::frame_of;
-use crate::taking::take_eight;
+use crate::room::four_frame;
 use mj_angles::Layout;
-use mj_inverse::solve_in;
+use mj_inverse_four::{Group, find_four, take_four, take_one};
 
-/// Looks for as many blocks as `lost` has bytes, whose bins stand side by side, and writes their words one block
-/// after the other. The byte of a block that has no words becomes 1, and its place stays as it was.
+/// Looks for the blocks of a group by their fragments, and writes their words one block after the other. The byte of a
+/// block that has no words becomes 1, and its place stays as it was.
 pub fn solve_group(
     layout: Layout,
-    positions: &[u32],
     angles: &[i32],
-    bins: &[u64],
+    parts: &[&[u64]],
+    strides: &[usize],
+    group: Group,
     grid: &mut [u64],
     out: &mut [u64],
     lost: &mut [u8],
 )
-    requires positions { list_all (λ i. nat_lt i (safe_of layout)) positions.now ≡ true }
-    requires ascending { is_ascending_from 0 positions.now ≡ true }
-    requires count { length positions.now ≡ inverse_of layout }
-    requires angles { angles.now ≡ map (angle_of layout) positions.now }
-    requires bins { length bins.now ≡ 8 * sum_by (bins_at_of layout) positions.now }
-    requires grid { length grid.old ≡ rows_room_of layout }
-    requires few { length lost.old ≤ 8 }
+    requires angles { AreAngles (inverse_of layout) (reach_of layout) angles.now }
+    requires there { AreThere (inverse_of layout) (cols_of layout) angles.now parts.now strides.now (group.first + (group.count - 1)) }
+    requires few_blocks { group.first < 2 ^ 62 }
+    requires some { 0 < group.count }
+    requires few { group.count ≤ 4 }
+    requires count { group.count ≡ length lost.old }
+    requires grid { length grid.old ≡ four_room_of layout }
     requires room { length out.old ≡ length lost.old * words_of layout }
-    ensures known { (i : ℕ) (own : List ℕ) → i < length lost.old → length own ≡ sum_by (bins_at_of layout) positions.now →
-        ((k : ℕ) → k < sum_by (bins_at_of layout) positions.now → slice_index bins.now (8 * k + i) ≡ slice_index own k) →
-        IsKnown layout (search_of layout positions.now own) (part_of layout out.old i) (part_of layout out.new i) (slice_index lost.new i) }
+    ensures known { (i : ℕ) → i < length lost.old →
+        IsKnown layout (fragment_search (inverse_of layout) (cols_of layout) angles.now parts.now strides.now (group.first + i)) (part_of layout out.old i) (part_of layout out.new i) (slice_index lost.new i) }
 {
-    let answer = solve_in(angles, bins, frame_of(layout), grid);
+    let answer = find_four(angles, parts, strides, group, four_frame(layout), grid);
     take_all(layout, answer, grid, out, lost);
 }
 
 /// Writes the words of those blocks whose bit is 0.
 fn take_all(layout: Layout, answer: u8, grid: &[u64], out: &mut [u64], lost: &mut [u8])
-    requires grid { length grid.now ≡ rows_room_of layout }
-    requires few { length lost.old ≤ 8 }
+    requires grid { length grid.now ≡ four_room_of layout }
+    requires few { length lost.old ≤ 4 }
     requires room { length out.old ≡ length lost.old * words_of layout }
     ensures { IsDone layout (λ i new byte. IsDealt layout grid.now answer out.old i new byte) (length lost.old) (length lost.old) out.old out.new lost.new }
 {
-    if answer == 0 && lost.len() == 8 {
+    if answer == 0 && lost.len() == 4 {
         take_whole(layout, answer, grid, out, lost);
     } else {
         take_each(layout, answer, grid, out, lost);
     }
 }
 
-/// The same where all eight have words, four words by four.
+/// The same where all four have words.
 fn take_whole(layout: Layout, answer: u8, grid: &[u64], out: &mut [u64], lost: &mut [u8])
-    requires grid { length grid.now ≡ rows_room_of layout }
+    requires grid { length grid.now ≡ four_room_of layout }
     requires zero { answer ≡ 0 }
-    requires eight { length lost.old ≡ 8 }
-    requires room { length out.old ≡ 8 * words_of layout }
+    requires four { length lost.old ≡ 4 }
+    requires room { length out.old ≡ 4 * words_of layout }
     ensures { IsDone layout (λ i new byte. IsDealt layout grid.now answer out.old i new byte) (length lost.old) (length lost.old) out.old out.new lost.new }
 {
-    take_eight(grid, frame_of(layout), out);
+    take_four(grid, four_frame(layout), out);
     clear(lost);
 }
 
@@ -75,8 +72,8 @@ fn clear(lost: &mut [u8])
 
 /// The same block by block.
 fn take_each(layout: Layout, answer: u8, grid: &[u64], out: &mut [u64], lost: &mut [u8])
-    requires grid { length grid.now ≡ rows_room_of layout }
-    requires few { length lost.old ≤ 8 }
+    requires grid { length grid.now ≡ four_room_of layout }
+    requires few { length lost.old ≤ 4 }
     requires room { length out.old ≡ length lost.old * words_of layout }
     ensures { IsDone layout (λ i new byte. IsDealt layout grid.now answer out.old i new byte) (length lost.old) (length lost.old) out.old out.new lost.new }
 {
@@ -89,8 +86,8 @@ fn take_each(layout: Layout, answer: u8, grid: &[u64], out: &mut [u64], lost: &m
 
 /// Writes the words of block `i` if its bit is 0, and answers the bit.
 fn take_or_leave(layout: Layout, answer: u8, i: usize, grid: &[u64], out: &mut [u64]) -> u8
-    requires grid { length grid.now ≡ rows_room_of layout }
-    requires few { i < 8 }
+    requires grid { length grid.now ≡ four_room_of layout }
+    requires few { i < 4 }
     requires room { length out.old ≡ words_of layout }
     ensures bit { result ≡ answer / 2 ^ i % 2 }
     ensures taken { result ≡ 0 → IsTaken (inverse_of layout) (cols_of layout) (reach_of layout) grid.now i out.new }
@@ -98,7 +95,7 @@ fn take_or_leave(layout: Layout, answer: u8, i: usize, grid: &[u64], out: &mut [
 {
     let lost = (answer >> i) % 2;
     if lost == 0 {
-        take_one(grid, i, frame_of(layout), out);
+        take_one(grid, i, four_frame(layout), out);
     }
     lost
 }

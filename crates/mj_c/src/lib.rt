@@ -10,19 +10,21 @@
 //! there is memory.
 #![tactic(auto)]
 
-ghost use Rattle.std.specs.Prelude.{◌≡◌, ◌≢◌, ◌⊎◌, ◌<◌, ◌+◌, ◌*◌, ◌/◌, ℕ, length, slice_index, slice_range, IfSome};
+ghost use Rattle.std.specs.Prelude.{◌≡◌, ◌≢◌, ◌⊎◌, ◌<◌, ◌+◌, ◌*◌, ◌/◌, ℕ, map, length, slice_index, slice_range, IfSome};
 ghost use Rattle.mj_angles.specs.Projection.{bin, projection, word_at};
 ghost use Rattle.mj_angles.specs.Layout.{inverse_of, cols_of, angle_of, bins_at_of};
 ghost use Rattle.mj_forward.specs.Forward.{lane_word, start_of};
 ghost use Rattle.rz_words.specs.Grid.{Grid, grid_of};
 ghost use Rattle.mj_inverse.specs.Fits.{IsFound};
+ghost use Rattle.mj_inverse_four.specs.Fragments.{fragment_search};
 ghost use Rattle.mj_c.specs.Layouts.{layout_at, search_of, search_at, words_of, IsAnswered, IsKnown, bins_or_zero, part_of, room_or_zero, group_search, group_at, IsSolved};
 ghost use Rattle.mj_c.specs.Numbers.{numbers_answer, numbers_of};
-ghost use Rattle.mj_c.specs.Answers.{code_of, project_answer, eight_answer, all_answer, solve_refusal, many_refusal, eight_refusal, lent_refusal, lent_eight_refusal};
+ghost use Rattle.mj_c.specs.Answers.{code_of, project_answer, eight_answer, all_answer, solve_refusal, many_refusal, eight_refusal, lent_refusal, lent_eight_refusal, apart_refusal};
 
 mod apart;
 mod eight;
 mod forward;
+mod fragments;
 mod group;
 mod inverse;
 mod layouts;
@@ -30,9 +32,6 @@ mod lent;
 mod lent_eight;
 mod many;
 mod room;
-mod square;
-mod starts;
-mod taking;
 #[cfg(test)]
 mod tests;
 
@@ -235,6 +234,31 @@ pub extern "C" fn mj_c_solve_many_in(
     ensures unnamed { result ≢ 0 → lost.new ≡ lost.old }
 {
     lent::solve_many_in_at(layout, positions, bins, out, lost, room).code()
+}
+
+/// The same of blocks whose fragments stand apart, as stores have them: each position has a list of words, in which the bins
+/// of block `i` begin at `i` times the stride that stands in its place of `strides`. As many words must be there as the last block
+/// needs.
+#[unsafe(no_mangle)]
+pub extern "C" fn mj_c_solve_apart_in(
+    layout: u32,
+    positions: &[u32],
+    parts: &[&[u64]],
+    strides: &[usize],
+    out: &mut [u64],
+    lost: &mut [u8],
+    room: &mut [u64],
+) -> u32
+    ensures refused { let refusal = apart_refusal (layout_at layout) positions.now parts.now strides.now (length out.old) (length lost.old) (length room.old) in
+        refusal ≢ Answer.Done → result ≡ code_of refusal }
+    ensures done { apart_refusal (layout_at layout) positions.now parts.now strides.now (length out.old) (length lost.old) (length room.old) ≡ Answer.Done → result ≡ 0 }
+    ensures known { result ≡ 0 → IfSome (layout_at layout)
+        (λ y. (i : ℕ) → i < length lost.old → IsKnown y (fragment_search (inverse_of y) (cols_of y) (map (angle_of y) positions.now) parts.now strides.now i)
+        (part_of y out.old i) (part_of y out.new i) (slice_index lost.new i)) }
+    ensures unchanged { result ≢ 0 → out.new ≡ out.old }
+    ensures unnamed { result ≢ 0 → lost.new ≡ lost.old }
+{
+    apart::solve_apart_in_at(layout, positions, parts, strides, out, lost, room).code()
 }
 
 /// `mj_c_solve_eight` in room that is lent. What `room` holds does not matter, before or after.

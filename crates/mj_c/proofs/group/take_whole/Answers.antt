@@ -1,26 +1,12 @@
-use Rattle.std.proofs.Common.{rules, arith, ◌≡◌, ◌<◌, ◌+◌, ◌*◌, ◌/◌, ◌%◌, ◌^◌, ◌∙◌, ℕ, refl, sym, ap, subst}
+use Rattle.std.proofs.Common.{rules, arith, ◌≡◌, ◌≤◌, ◌<◌, ◌+◌, ◌*◌, ◌/◌, ◌%◌, ◌^◌, ◌∙◌, ℕ, length, sym, ap, subst}
 use Rattle.std.specs.Prelude.{slice_range}
-use Rattle.mj_angles.specs.declared.layout.Layout.{Layout}
-use Rattle.mj_angles.specs.declared.layout.Layout.TheVariants.{L0, L1, L2, L0B1, L0B2, L0B3, L1B1, L1B2, L1B3, L2B1, L2B2, L2B3}
+use Rattle.rz_words.specs.Grid.{IsShape}
 use Rattle.mj_angles.specs.Layout.{inverse_of, cols_of}
-use Rattle.mj_inverse.specs.Padded.{IsTaken}
+use Rattle.mj_inverse_four.specs.declared.frame.Frame.{Frame}
+use Rattle.mj_inverse_four.specs.Rows.{IsTaken, room_of as room_for}
 use Rattle.mj_c.specs.Layouts.{part_of, reach_of}
+use Rattle.mj_c.proofs.Risen.{frame_eights, frame_few, frame_shape}
 use Rattle.mj_c.proofs.group.take_whole.Goals as goal
-
--- each layout has a multiple of four columns
-fours : (y : Layout) → cols_of y / 4 * 4 ≡ cols_of y
-fours L0 = refl
-fours L1 = refl
-fours L2 = refl
-fours L0B1 = refl
-fours L0B2 = refl
-fours L0B3 = refl
-fours L1B1 = refl
-fours L1B2 = refl
-fours L1B3 = refl
-fours L2B1 = refl
-fours L2B2 = refl
-fours L2B3 = refl
 
 zero_bits : (a j : ℕ) → a ≡ 0 → a / 2 ^ j % 2 ≡ 0
 zero_bits a j e = ap (λ x. x / 2 ^ j % 2) e ∙ none j
@@ -28,22 +14,29 @@ zero_bits a j e = ap (λ x. x / 2 ^ j % 2) e ∙ none j
     none : (j : ℕ) → 0 / 2 ^ j % 2 ≡ 0
     none j = search (rules, arith)
 
-pub take_eight-requires-clause-fours : goal.take_eight-requires-clause-fours
-take_eight-requires-clause-fours c =
-    let P : ℕ → Type 0 = λ k. k / 4 * 4 ≡ k in
-    subst P (sym c.frame_of.ensures.cols) (fours c.args.layout)
+pub take_four-requires-clause-shape : goal.take_four-requires-clause-shape
+take_four-requires-clause-shape c = let P : Frame → Type 0 = λ (f : Frame). IsShape f.rows f.cols in subst P (sym c.four_frame.ensures.value) (frame_shape c.args.layout)
+
+pub take_four-requires-clause-few : goal.take_four-requires-clause-few
+take_four-requires-clause-few c = let P : Frame → Type 0 = λ (f : Frame). f.reach ≤ 256 in subst P (sym c.four_frame.ensures.value) (frame_few c.args.layout)
+
+pub take_four-requires-clause-eights : goal.take_four-requires-clause-eights
+take_four-requires-clause-eights c = let P : Frame → Type 0 = λ (f : Frame). f.cols / 8 * 8 ≡ f.cols in subst P (sym c.four_frame.ensures.value) (frame_eights c.args.layout)
+
+pub take_four-requires-clause-room : goal.take_four-requires-clause-room
+take_four-requires-clause-room c = let P : Frame → Type 0 = λ (f : Frame). length c.args.grid.now ≡ room_for f.rows f.cols f.reach in subst P (sym c.four_frame.ensures.value) c.requires.grid
+
+pub take_four-requires-clause-out : goal.take_four-requires-clause-out
+take_four-requires-clause-out c = let P : Frame → Type 0 = λ (f : Frame). length c.args.out.now ≡ 4 * (f.rows * f.cols) in subst P (sym c.four_frame.ensures.value) c.requires.room
 
 pub returns : goal.returns
 returns c = record {
   known = λ i few.
       (let y = c.args.layout in
-      let eight = c.requires.eight in
-      let small : i < 8 = omega arith in
-      let P : ℕ → Type 0 = λ r. IsTaken r c.frame_of.result.cols c.frame_of.result.reach c.args.grid.now i (slice_range c.take_eight.new.out (i * (r * c.frame_of.result.cols)) (i * (r * c.frame_of.result.cols) + r * c.frame_of.result.cols)) in
-      let Q : ℕ → Type 0 = λ k. IsTaken (inverse_of y) k c.frame_of.result.reach c.args.grid.now i (slice_range c.take_eight.new.out (i * (inverse_of y * k)) (i * (inverse_of y * k) + inverse_of y * k)) in
-      let R : ℕ → Type 0 = λ r. IsTaken (inverse_of y) (cols_of y) r c.args.grid.now i (part_of y c.take_eight.new.out i) in
-      let taken : IsTaken (inverse_of y) (cols_of y) (reach_of y) c.args.grid.now i (part_of y c.take_eight.new.out i) =
-      subst R c.frame_of.ensures.reach (subst Q c.frame_of.ensures.cols (subst P c.frame_of.ensures.rows (c.take_eight.ensures i small))) in
+      let four = c.requires.four in
+      let small : i < 4 = omega arith in
+      let P : Frame → Type 0 = λ (f : Frame). IsTaken f.rows f.cols f.reach c.args.grid.now i (slice_range c.take_four.new.out (i * (f.rows * f.cols)) (i * (f.rows * f.cols) + f.rows * f.cols)) in
+      let taken : IsTaken (inverse_of y) (cols_of y) (reach_of y) c.args.grid.now i (part_of y c.take_four.new.out i) = subst P c.four_frame.ensures.value (c.take_four.ensures i small) in
       record {
         bit = c.clear.ensures i ∙ sym (zero_bits c.args.answer i c.requires.zero);
         taken = λ z. taken;

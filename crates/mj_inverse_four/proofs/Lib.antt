@@ -1,0 +1,9 @@
+pub mod Cases
+pub mod Swept
+pub mod Crossed
+pub mod Marks
+pub mod Left
+pub mod Found
+pub mod Angled
+pub mod Blocks
+pub mod Taken

@@ -1,0 +1,69 @@
+use Rattle.std.proofs.Common.{arith, ◌≡◌, ◌<◌, ◌≤◌, ◌+◌, ◌*◌, ◌-◌, ℕ, ℤ, List, length, get_or, ap, ◌∙◌, subst, ◌⊎◌, inl, inr}
+use Rattle.std.proofs.lemmas.Bool.{cases_lt}
+use Rattle.mj_angles.specs.Projection.{bins, row_start}
+use Rattle.mj_inverse_four.specs.Rows.{AreBins, angle_at, direction_of, inner, width_of}
+use Rattle.mj_inverse_four.specs.Starts.{block_of}
+use Rattle.mj_inverse_four.specs.Fragments.{given_by}
+use Rattle.mj_inverse_four.proofs.Blocks.{block_within}
+use Rattle.mj_inverse_four.proofs.fill.fill_rows.Goals as goal
+
+-- one more row
+filled_more : (rows cols reach : ℕ) (given : ℕ → ℕ → ℕ → ℕ) (p : ℕ → ℤ) (old new : List ℕ) (n : ℕ) →
+    ((i k : ℕ) → i < 4 → k < cols → inner new (width_of cols reach) reach i n k ≡ given i n (row_start (p n) rows n + k)) →
+    ((i l k : ℕ) → i < 4 → l < n → k < cols → inner new (width_of cols reach) reach i l k ≡ inner old (width_of cols reach) reach i l k) →
+    AreBins rows cols reach given p old n → AreBins rows cols reach given p new (n + 1)
+filled_more rows cols reach given p old new n here kept before = λ i l k small h near. by i l k small h near (cases_lt l n)
+  where
+    by : (i l k : ℕ) → i < 4 → l < n + 1 → k < cols → (l < n) ⊎ (n ≤ l) → inner new (width_of cols reach) reach i l k ≡ given i l (row_start (p l) rows l + k)
+    by i l k small h near (inl less) = kept i l k small less near ∙ before i l k small less near
+    by i l k small h near (inr more) =
+        let e : n ≡ l = omega arith in
+        let P : ℕ → Type 0 = λ y. inner new (width_of cols reach) reach i y k ≡ given i y (row_start (p y) rows y + k) in
+        subst P e (here i k small near)
+
+pub fill_row-requires-clause-within : goal.fill_row-requires-clause-within
+fill_row-requires-clause-within c = λ i small.
+    let rows : ℕ = c.args.frame.rows in
+    let n : ℕ = c.loop-n.n in
+    let m : ℕ = c.args.frame.rows - 1 - c.loop-n.n in
+    let test = c.loop-n-test.true in
+    let there = c.requires.there.within (c.args.frame.rows - 1 - c.loop-n.n) (omega arith) in
+    let starts = c.starts_of-starts.ensures i small in
+    let block = block_within c.args.group i (get_or c.args.strides.now (c.args.frame.rows - 1 - c.loop-n.n) 0) in
+    let first = c.first_bin-from.ensures.within c.args.frame.cols in
+    let p = c.slope_at.ensures.value in
+    let words = ap (λ xs. length xs) c.words_at-words.ensures in
+    let all : bins c.slope_at.result.angle rows c.args.frame.cols ≡ bins (angle_at c.args.angles.now (c.args.frame.rows - 1 - c.loop-n.n)) rows c.args.frame.cols = ap (λ q. bins q rows c.args.frame.cols) p in
+    omega arith
+
+pub starts_of-starts-requires-clause-within : goal.starts_of-starts-requires-clause-within
+starts_of-starts-requires-clause-within c =
+    let test = c.loop-n-test.true in
+    let there = c.requires.there.within (c.args.frame.rows - 1 - c.loop-n.n) (omega arith) in
+    let words = ap (λ xs. length xs) c.words_at-words.ensures in
+    omega arith
+
+pub words_at-words-requires : goal.words_at-words-requires
+words_at-words-requires c = let all = c.requires.there.all in let test = c.loop-n-test.true in omega arith
+
+pub loop-n-preserved : goal.loop-n-preserved
+loop-n-preserved c =
+    let rows : ℕ = c.args.frame.rows in
+    let m : ℕ = c.args.frame.rows - 1 - c.loop-n.n in
+    record {
+      padded = c.fill_row.ensures.padded;
+      filled = filled_more rows c.args.frame.cols c.args.frame.reach (given_by rows c.args.parts.now c.args.strides.now c.args.group) (direction_of rows c.args.angles.now) c.loop-n.grid c.fill_row.new.grid c.loop-n.n
+          (λ i k small near.
+          let starts = c.starts_of-starts.ensures i small in
+          let from = c.first_bin-from.ensures.value ∙ ap (λ q. row_start q rows c.loop-n.n) c.slope_at.ensures.value in
+          c.fill_row.ensures.here i k small near ∙ ap (λ x. get_or c.words_at-words.result.now (x + (c.first_bin-from.result + k)) 0) starts
+          ∙ ap (λ x. get_or c.words_at-words.result.now (block_of c.args.group i * get_or c.args.strides.now (c.args.frame.rows - 1 - c.loop-n.n) 0 + (x + k)) 0) from
+          ∙ ap (λ xs. get_or xs (block_of c.args.group i * get_or c.args.strides.now (c.args.frame.rows - 1 - c.loop-n.n) 0 + (row_start (direction_of rows c.args.angles.now c.loop-n.n) rows c.loop-n.n + k)) 0) c.words_at-words.ensures)
+          c.fill_row.ensures.before c.loop-n.invariant.filled;
+    }
+
+pub returns-clause-bins : goal.returns-clause-bins
+returns-clause-bins c =
+    let end : c.loop-n.n ≡ c.args.frame.rows = omega arith in
+    let P : ℕ → Type 0 = λ n. AreBins c.args.frame.rows c.args.frame.cols c.args.frame.reach (given_by c.args.frame.rows c.args.parts.now c.args.strides.now c.args.group) (direction_of c.args.frame.rows c.args.angles.now) c.loop-n.grid n in
+    subst P end c.loop-n.invariant.filled
