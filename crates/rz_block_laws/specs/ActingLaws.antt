@@ -15,7 +15,7 @@ use Rattle.rz_script.specs.Lines as script
 use Rattle.rz_operation_model.specs.Ask.{Ask, AskNode, Say, Saying, ask_of}
 use Rattle.rz_operation_model.specs.Steps.{Told, Answered, begun, told}
 use Rattle.rz_operation_model.specs.Turns.{IsStep}
-use Rattle.rz_operation.specs.Answers.{IsOperation, IsWorkAfter, FitsIfEnough}
+use Rattle.rz_operation.specs.Answers.{IsWithinLayout, IsWorkAfter, FitsIfEnough}
 use Rattle.rz_operation.specs.Machine.{Machine, text_of}
 use Rattle.rz_core.specs.History.{facts, of_actor}
 use Rattle.rz_core.specs.Legal.{IsLegal}
@@ -29,7 +29,7 @@ use Rattle.rz_block_laws.specs.Acting.{IsActing, TellsBytes}
 
 -- An operation of a script begins.
 pub record Begins (v : Volume) (by : Actor) (op : Operation) : Type 0 where
-  pub takes : IsOperation v.layout op
+  pub takes : IsWithinLayout v.layout op
   pub acts : (h : List Event) (number : ℕ) (m : Machine) → IsBetween (of_actor by h) → m.layout ≡ v.layout → m.work ≡ begun op → IsActing v h by number m
 
 abbrev pub IsBeginningLaw : Volume → Type 0

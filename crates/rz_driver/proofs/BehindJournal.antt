@@ -31,7 +31,7 @@ use Rattle.rz_driver_nodes.specs.Servers.{numbers_of, IsServer}
 use Rattle.rz_driver.specs.declared.driver.Driver.{Driver}
 use Rattle.rz_driver_actors.specs.declared.actor_agenda.Agenda.{Agenda}
 use Rattle.rz_driver_actors.specs.declared.shared.Shared.{Shared}
-use Rattle.rz_driver.specs.Formatted.{IsBehindJournal, IsJournalBack, AreBackWithJournal, IsFault, IsJournalRefused}
+use Rattle.rz_driver.specs.Formatted.{IsBehindJournal, IsJournalBack, AreBackWithJournal, IsFault, IsJournalUnmade}
 use Rattle.rz_driver.specs.Journals.{KeepsLog, journal_place, StandsForJournal}
 use Rattle.rz_driver.specs.Coherence.{AreBytes, IsCoherent}
 use Rattle.rz_driver.specs.Worlds.{HasCounted, anew, world, world_of, numbers_in, IsDriver, IsCoherentAfter, HoldsBetweenTurns}
@@ -207,7 +207,7 @@ fault-is meter disk back format.DiskFault fault index place is at risen = subst 
 
 -- no journal was made
 module _ {D : Type 0} (tells : Bool) (meter : D → Meter) (text : D → List ℕ) (image : D → List ℕ → Type 0) (v : Volume) (nodes : List D) (journal : D) (row : List (Server (UnderFuse D))) (back : List D) (fault : DriverFault)
-    (refused : IsJournalRefused tells meter image v (disks_of row) journal back fault) where
+    (refused : IsJournalUnmade tells meter image v (disks_of row) journal back fault) where
   pub refused-back : (disks : List D) → disks ≡ nodes ++ journal ∷ [] → AreFormatted tells meter text image v.layout (nodes_of v.clusters) nodes row → AreBackWithJournal tells meter image v disks back
   refused-back disks split made = record {
     nodes = nodes;

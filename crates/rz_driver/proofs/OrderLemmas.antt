@@ -14,7 +14,7 @@ use Rattle.rz_events.specs.declared.keys.Actor.{Actor}
 use Rattle.rz_events.specs.declared.operations.Operation.{Operation}
 use Rattle.rz_events.specs.Events.{same_actor}
 use Rattle.rz_metadata.specs.Stands.{IsJournalOpen}
-use Rattle.rz_operation.specs.Answers.{IsOperation}
+use Rattle.rz_operation.specs.Answers.{IsWithinLayout}
 use Rattle.rz_play.specs.World.{Agenda as APlayer, with_agenda}
 use Rattle.rz_driver.specs.declared.driver.Driver.{Driver}
 use Rattle.rz_driver_actors.specs.declared.actor_agenda.Agenda.{Agenda}
@@ -34,7 +34,7 @@ ordered p ss turns by place s b t at low here is = λ i. record (world p ss turn
     agendas : agenda_in (set ss place b) ≡ (λ x. cond (same_actor x by) (t (agenda_in ss by)) (agenda_in ss x))
     agendas = fun_ext (λ x. agenda-set ss by place b at low x ∙ ap (λ (y : APlayer). cond (same_actor x by) y (agenda_in ss x)) (is ∙ ap t (sym (agenda-here ss by place s at here))))
 
-pub all-more : (layout : Layout) (ops : List Operation) (op : Operation) → AllByRecursion (IsOperation layout) ops → IsOperation layout op → AllByRecursion (IsOperation layout) (ops ++ op ∷ [])
+pub all-more : (layout : Layout) (ops : List Operation) (op : Operation) → AllByRecursion (IsWithinLayout layout) ops → IsWithinLayout layout op → AllByRecursion (IsWithinLayout layout) (ops ++ op ∷ [])
 all-more layout [] op all fits = (fits, tt)
 all-more layout (x ∷ ops) op all fits = (all.0, all-more layout ops op all.1 fits)
 

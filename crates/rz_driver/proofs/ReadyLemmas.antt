@@ -15,7 +15,7 @@ use Rattle.rz_core.specs.NodeRows.{cells_of}
 use Rattle.rz_locks.specs.declared.conflict.Lock.{Lock}
 use Rattle.rz_locks.specs.Held.{Held}
 use Rattle.rz_operation.specs.Machine.{Machine}
-use Rattle.rz_operation.specs.Answers.{IsOperation}
+use Rattle.rz_operation.specs.Answers.{IsWithinLayout}
 use Rattle.rz_play.specs.World.{Agenda as APlayer}
 use Rattle.rz_driver_actors.specs.declared.actor_agenda.Agenda.{Agenda}
 use Rattle.rz_driver_actors.specs.declared.shared.Shared.{Shared}
@@ -62,7 +62,7 @@ has-layout layout old new o o' was is same has = subst (HasLayout layout) (sym i
 same-agenda : (layout : Layout) (old new : Machine) (a b : Agenda) → a.machine ≡ Some old → b.machine ≡ Some new → new.layout ≡ old.layout → IsSameActor a b → IsAgenda layout a → IsAgenda layout b
 same-agenda layout old new a b was is kept same agenda = record {
   machine = has-layout layout old new a.machine b.machine was is kept agenda.machine;
-  todo = subst (AllByRecursion (IsOperation layout)) (sym same.todo) agenda.todo;
+  todo = subst (AllByRecursion (IsWithinLayout layout)) (sym same.todo) agenda.todo;
 }
 
 fate-layout : {D J : Type 0} {by : Actor} {n : ℕ} {question : _} {s s' : Server D} {old new : Machine} {miss miss' : Option Bool} {p q : Shared D J} → IsFate by n question s s' old new miss miss' p q → new.layout ≡ old.layout

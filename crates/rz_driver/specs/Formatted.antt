@@ -47,7 +47,7 @@ IsFault meter place disk back driver.NoMemory = Unit {0}
 IsFault meter place disk back (driver.Disk index) = (index ≡ place) × Rises (faults (meter disk)) (faults (meter back))
 
 -- no journal was made on a disk, which comes back behind those of the nodes
-pub record IsJournalRefused {D : Type 0} (tells : Bool) (meter : D → Meter) (image : D → List ℕ → Type 0) (v : Volume) (nodes : List D) (disk : D) (back : List D) (fault : DriverFault) : Type 0 where
+pub record IsJournalUnmade {D : Type 0} (tells : Bool) (meter : D → Meter) (image : D → List ℕ → Type 0) (v : Volume) (nodes : List D) (disk : D) (back : List D) (fault : DriverFault) : Type 0 where
   pub last : D
   pub back_are : back ≡ nodes ++ last ∷ []
   pub kept : IsJournalBack tells meter image v disk last

@@ -6,7 +6,7 @@ ghost use Rattle.rz_nodes.specs.Formatted.{AreFormatted, IsCause, disks_of, faul
 ghost use Rattle.rz_metadata.specs.Stands.{is_journaled};
 ghost use Rattle.rz_play.specs.World.{new_world};
 ghost use Rattle.rz_driver_nodes.specs.Meters.{faults_at};
-ghost use Rattle.rz_driver.specs.Formatted.{AreBackWithJournal, IsBehindJournal, IsJournalRefused};
+ghost use Rattle.rz_driver.specs.Formatted.{AreBackWithJournal, IsBehindJournal, IsJournalUnmade};
 ghost use Rattle.rz_driver.specs.Worlds.{HasCounted, anew, world_of, IsDriver, HoldsBetweenTurns};
 
 use crate::driver::Driver;
@@ -51,7 +51,7 @@ impl<D: Disk> Driver<D> {
     /// disks of the nodes come back, and behind them this one.
     fn behind_journal(mut self, disk: D) -> Result<Driver<D>, (Vec<D>, DriverFault)>
         ensures behind { IfOk result (λ d. IsBehindJournal disk self d) }
-        ensures back { IfErr result (λ r. IsJournalRefused D.tells D.meter D.image self.volume (disks_of self.shared.servers.items) disk r.0.items r.1) }
+        ensures back { IfErr result (λ r. IsJournalUnmade D.tells D.meter D.image self.volume (disks_of self.shared.servers.items) disk r.0.items r.1) }
     {
         let Ok(volume) = self.volume.copy(self.alloc) else {
             return Err((self.back_with(disk), DriverFault::NoMemory));

@@ -4,7 +4,7 @@ use Rattle.std.specs.List.{AllByRecursion}
 use Rattle.mj_angles.specs.declared.layout.Layout.{Layout}
 use Rattle.rz_events.specs.declared.operations.Operation.{Operation}
 use Rattle.rz_operation.specs.Machine.{Machine}
-use Rattle.rz_operation.specs.Answers.{IsOperation}
+use Rattle.rz_operation.specs.Answers.{IsWithinLayout}
 use Rattle.rz_operation_model.specs.Work.{Work, Over}
 use Rattle.rz_play.specs.World.{Agenda as APlayer, is_over}
 use Rattle.rz_driver_actors.specs.declared.actor_agenda.Agenda.{Agenda}
@@ -25,7 +25,7 @@ HasLayout layout (Some m) = m.layout ≡ layout
 -- and so have the operations that wait
 pub record IsAgenda (layout : Layout) (s : Agenda) : Type 0 where
   pub machine : HasLayout layout s.machine
-  pub todo : AllByRecursion (IsOperation layout) s.todo.items
+  pub todo : AllByRecursion (IsWithinLayout layout) s.todo.items
 
 pub record IsEmptyAgenda (s : Agenda) : Type 0 where
   pub todo : s.todo.items ≡ []

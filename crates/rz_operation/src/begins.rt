@@ -6,7 +6,7 @@ ghost use Rattle.rz_operation_model.specs.Ranges.{bytes_of};
 ghost use Rattle.rz_operation_model.specs.Steps.{begun, planned, after_open, after_lock, after_call};
 ghost use Rattle.rz_operation_model.specs.Work.{WriteBytes};
 ghost use Rattle.rz_operation_states.specs.Meaning.{path_in};
-ghost use Rattle.rz_operation_states.specs.Answers.{HasPlaces, IsOperation, IsWithinFile};
+ghost use Rattle.rz_operation_states.specs.Answers.{HasPlaces, IsWithinLayout, IsWithinFile};
 ghost use Rattle.rz_operation_states.specs.Inside.{IsOperationState, IsOpenPlan, HasNoRecords, HasNoBlock, work_of, plan_of};
 
 use mj_angles::Layout;
@@ -43,7 +43,7 @@ fn blank(layout: Layout) -> FileInfo
 
 /// How an operation begins.
 pub fn begun(alloc: Global, layout: Layout, op: Operation) -> Result<OperationState, AllocError>
-    requires { IsOperation layout op }
+    requires { IsWithinLayout layout op }
     ensures work { IfOk result (λ s. work_of s ≡ begun op) }
     ensures inside { IfOk result (λ s. IsOperationState layout s) }
 {
@@ -94,7 +94,7 @@ pub fn begun_par<R: Threads + Sync>(
     layout: Layout,
     op: Operation,
 ) -> Result<OperationState, AllocError>
-    requires { IsOperation layout op }
+    requires { IsWithinLayout layout op }
     ensures work { IfOk result (λ s. work_of s ≡ begun op) }
     ensures inside { IfOk result (λ s. IsOperationState layout s) }
 {

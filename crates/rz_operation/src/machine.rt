@@ -7,7 +7,7 @@ ghost use Rattle.rz_operation_model.specs.Steps.{begun, read_end, Replied, Locke
 ghost use Rattle.rz_operation_states.specs.Meaning.{meaning_of};
 ghost use Rattle.rz_operation_states.specs.Machine.{is_over, HasBins, AreBins, HasText, text_of};
 ghost use Rattle.rz_operation_states.specs.Records.{HasHead, IsCount};
-ghost use Rattle.rz_operation_states.specs.Answers.{IsOperation, IsReply, IsLockReply, IsAnswer, ComeWith, MayMiss, IsPartSaid, IsDone, IsWorkAfter, FitsIfEnough};
+ghost use Rattle.rz_operation_states.specs.Answers.{IsWithinLayout, IsReply, IsLockReply, IsAnswer, ComeWith, MayMiss, IsPartSaid, IsDone, IsWorkAfter, FitsIfEnough};
 
 use crate::begins::{begun, begun_par};
 use crate::replies::{after_answer, after_lock, after_miss, after_reply, after_said, answer_in};
@@ -50,7 +50,7 @@ impl Model for Machine {
 impl Machine {
     /// The operation, with all the memory that it needs.
     pub fn start(alloc: Global, layout: Layout, op: Operation) -> Result<Machine, AllocError>
-        requires { IsOperation layout op }
+        requires { IsWithinLayout layout op }
         ensures layout { IfOk result (λ m. m.layout ≡ layout) }
         ensures work { IfOk result (λ m. m.work ≡ begun op) }
     {
@@ -65,7 +65,7 @@ impl Machine {
         layout: Layout,
         op: Operation,
     ) -> Result<Machine, AllocError>
-        requires { IsOperation layout op }
+        requires { IsWithinLayout layout op }
         ensures layout { IfOk result (λ m. m.layout ≡ layout) }
         ensures work { IfOk result (λ m. m.work ≡ begun op) }
     {

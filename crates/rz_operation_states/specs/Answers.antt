@@ -35,15 +35,15 @@ use Rattle.rz_operation_states.specs.Machine.{Machine}
 
 -- Operations that a machine takes: a block's datum fits the block, and a range ends where the longest file does.
 
-abbrev pub IsOperation : Layout → Operation → Type 0
-IsOperation layout (operation.Tree c) = Unit {0}
-IsOperation layout (operation.Put path block datum) = length (bytes_of datum) ≤ block_bytes_of layout
-IsOperation layout (operation.Get path block) = Unit {0}
-IsOperation layout (operation.Rebuild n) = Unit {0}
-IsOperation layout (operation.Write path offset datum) = offset + length (bytes_of datum) ≤ 4294967296
-IsOperation layout (operation.Read path offset count) = offset + count ≤ 4294967296
-IsOperation layout (operation.Update path offset datum) = offset + length (bytes_of datum) ≤ 4294967296
-IsOperation layout (operation.View path offset count) = offset + count ≤ 4294967296
+abbrev pub IsWithinLayout : Layout → Operation → Type 0
+IsWithinLayout layout (operation.Tree c) = Unit {0}
+IsWithinLayout layout (operation.Put path block datum) = length (bytes_of datum) ≤ block_bytes_of layout
+IsWithinLayout layout (operation.Get path block) = Unit {0}
+IsWithinLayout layout (operation.Rebuild n) = Unit {0}
+IsWithinLayout layout (operation.Write path offset datum) = offset + length (bytes_of datum) ≤ 4294967296
+IsWithinLayout layout (operation.Read path offset count) = offset + count ≤ 4294967296
+IsWithinLayout layout (operation.Update path offset datum) = offset + length (bytes_of datum) ≤ 4294967296
+IsWithinLayout layout (operation.View path offset count) = offset + count ≤ 4294967296
 
 -- the range of an operation ends where the longest file does
 abbrev pub IsWithinFile : RangePlan → Type 0

@@ -32,7 +32,7 @@ use Rattle.rz_locks.specs.declared.conflict.Lock.{Lock}
 use Rattle.rz_play.specs.Turns.{kind_of, lock_on}
 use Rattle.rz_play_locks.specs.Operations.{in_hand, IsUpdate, IsGuarded}
 use Rattle.rz_play_locks.proofs.Geometry.{passed-aligned}
-use Rattle.rz_play_locks.specs.Holding.{IsAligned, IsToGive, lock_for, OfPlan, IsTaking, IsPlanLocked, IsRange, InCourse, IsAlone, IsHolding}
+use Rattle.rz_play_locks.specs.Holding.{IsAligned, IsToGive, lock_for, OfPlan, IsTaking, IsPlanLocked, IsRange, IsCourseLock, IsAlone, IsHolding}
 
 -- a key that is guarded in a log is guarded in each beginning of it
 pub guarded-before : (ops : Actor → List Operation) (key : Key) (x : Event) (h : List Event) → IsGuarded ops key (x ∷ h) → IsGuarded ops key h
@@ -167,8 +167,8 @@ module _ (layout : Layout) (op : Operation) (lock : Option Lock) where
   reader-key s (Locked granted r) = refl
   reader-key s (Noted text) = refl
 
-  pub reading-later : (course : Course) (s : ReaderState) (t : Told) → InCourse layout op lock course s.key → L (Reading course (reader_after s t))
-  reading-later course s t is = subst (InCourse layout op lock course) (sym (reader-key s t)) is
+  pub reading-later : (course : Course) (s : ReaderState) (t : Told) → IsCourseLock layout op lock course s.key → L (Reading course (reader_after s t))
+  reading-later course s t is = subst (IsCourseLock layout op lock course) (sym (reader-key s t)) is
 
   -- The write of a block goes on.
 
@@ -185,8 +185,8 @@ module _ (layout : Layout) (op : Operation) (lock : Option Lock) where
   writer-key s (Locked granted r) = refl
   writer-key s (Noted text) = refl
 
-  pub writing-later : (course : Course) (text : List ℕ) (s : WriterState) (t : Told) → InCourse layout op lock course s.key → IsAlone op course → L (Writing course text (writer_after s t))
-  writing-later course text s t is alone = (subst (InCourse layout op lock course) (sym (writer-key s t)) is, alone)
+  pub writing-later : (course : Course) (text : List ℕ) (s : WriterState) (t : Told) → IsCourseLock layout op lock course s.key → IsAlone op course → L (Writing course text (writer_after s t))
+  writing-later course text s t is alone = (subst (IsCourseLock layout op lock course) (sym (writer-key s t)) is, alone)
 
 -- The file is opened with a lock.
 module _ (layout : Layout) (op : Operation) (lock now : Option Lock) (none : lock ≡ None) where

@@ -47,7 +47,7 @@ use Rattle.rz_play_laws.specs.Own.{IsProper}
 use Rattle.rz_play_laws.proofs.Blocks.{block-some}
 use Rattle.rz_play_laws.proofs.Events.{node-event}
 use Rattle.rz_play_locks.specs.Operations.{IsUpdate, in_hand}
-use Rattle.rz_play_locks.specs.Holding.{AreLocksApart, HasBlock, OfPlan, IsPlanLocked, IsRange, InCourse, IsAlone, IsHolding}
+use Rattle.rz_play_locks.specs.Holding.{AreLocksApart, HasBlock, OfPlan, IsPlanLocked, IsRange, IsCourseLock, IsAlone, IsHolding}
 use Rattle.rz_play_locks.proofs.Barring.{others-apart, lock-at_work}
 use Rattle.rz_play_locks.proofs.Kept.{IsGoing}
 
@@ -256,7 +256,7 @@ sending-locked layout op lock work key stamp holds s update = subst (IsLocked la
     held : IsHolding layout op lock (Writing s.course s.text s.state)
     held = subst (IsHolding layout op lock) s.work_is holds
 
-    by-course : (course : Course) → InCourse layout op lock course s.state.key → IsAlone op course → IsLocked layout lock s.state.key
+    by-course : (course : Course) → IsCourseLock layout op lock course s.state.key → IsAlone op course → IsLocked layout lock s.state.key
     by-course Alone is put = absurd (not-opened op put.0 (OnBlock (PutBlock put.1 put.2)) update put.3)
     by-course (Within r) is put = update-locked layout op lock r s.state.key update is
 

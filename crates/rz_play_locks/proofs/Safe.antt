@@ -41,7 +41,7 @@ use Rattle.rz_play_laws.specs.Fine.{IsFine}
 use Rattle.rz_play_laws.proofs.Frames.{AreBy, of_actor-other, same_actor-true}
 use Rattle.rz_play_locks.specs.Operations.{ended, in_hand, IsUpdate, IsGuarded}
 use Rattle.rz_play_locks.specs.Promises.{published_text, IsUpdated, NoneLost}
-use Rattle.rz_play_locks.specs.Holding.{HasBlock, OfPlan, IsPlanLocked, IsRange, InCourse, IsAlone, IsHolding, IsKeeping}
+use Rattle.rz_play_locks.specs.Holding.{HasBlock, OfPlan, IsPlanLocked, IsRange, IsCourseLock, IsAlone, IsHolding, IsKeeping}
 use Rattle.rz_play_locks.specs.Texts.{IsLocking, ReadsPublished, IsUpdateWritten, IsText, IsSafe}
 use Rattle.rz_play_locks.proofs.Moves.{IsLockAfter}
 use Rattle.rz_play_locks.proofs.Holds.{guarded-back, guarded-update}
@@ -188,7 +188,7 @@ published-updated v ops run h o mine by op lock work key stamp k holds text own 
     here : IsGuarded ops k.state.key run
     here = subst (λ z. IsGuarded ops z run) (sym k.key_is) guarded
 
-    by-course : (course : Course) → InCourse v.layout op lock course k.state.key → IsAlone op course → IsText v.layout ops run h (Some op) (Writing course k.text k.state)
+    by-course : (course : Course) → IsCourseLock v.layout op lock course k.state.key → IsAlone op course → IsText v.layout ops run h (Some op) (Writing course k.text k.state)
         → IsUpdated v.layout (Some op) k.state.key.block (published_text h k.state.key) k.text
     by-course Alone in_course put text = absurd (never-opened op put.0 (OnBlock (PutBlock put.1 put.2)) (update-locks (Some op) update) put.3)
     by-course (Within r) in_course put text =

@@ -47,7 +47,7 @@ use Rattle.rz_play_laws.specs.Own.{IsOwnOf, IsOfActor}
 use Rattle.rz_play_laws.proofs.Steps.{export-step, node-step, say-step}
 use Rattle.rz_play_laws.proofs.Events.{export-event, node-event}
 use Rattle.rz_play_locks.specs.Operations.{in_hand, ended}
-use Rattle.rz_play_locks.specs.Holding.{lock_for, InCourse, IsAlone, IsHolding, InHand}
+use Rattle.rz_play_locks.specs.Holding.{lock_for, IsCourseLock, IsAlone, IsHolding, InHand}
 use Rattle.rz_play_locks.proofs.Moves.{IsLockAfter}
 use Rattle.rz_play_locks.proofs.Holds.{Later, calling-later, dropping-later, opening-later, reading-later, writing-later, locked-later, part-later, block-later}
 
@@ -131,7 +131,7 @@ module _ (v : Volume) (ops : Actor → List Operation) (h : List Event) (by : Ac
         (λ link between. finish (e.Missed by n false ∷ []) lock _ (one-quiet o (e.Missed by n false) refl) (later Missed) between) t xs step
 
     -- The write of a block.
-    module _ (course : Course) (text : List ℕ) (layout : Layout) (key : Key) (places : List ℕ) (size : ℕ) (in_course : InCourse v.layout op lock course key) (alone : IsAlone op course) where
+    module _ (course : Course) (text : List ℕ) (layout : Layout) (key : Key) (places : List ℕ) (size : ℕ) (in_course : IsCourseLock v.layout op lock course key) (alone : IsAlone op course) where
       abbrev S : WriteStage → WriterState
       S stage = record { layout = layout; key = key; places = places; length = size; stage = stage }
 
@@ -155,7 +155,7 @@ module _ (v : Volume) (ops : Actor → List Operation) (h : List Event) (by : Ac
       sending t0 t xs false step = by-export (call.Publish key t0.stamp (mask_of t0.why) size) (Sends t0) (λ r. sends t0 (Replied r)) t xs step
 
     -- The read of a block.
-    module _ (course : Course) (layout : Layout) (key : Key) (places : List ℕ) (in_course : InCourse v.layout op lock course key) where
+    module _ (course : Course) (layout : Layout) (key : Key) (places : List ℕ) (in_course : IsCourseLock v.layout op lock course key) where
       abbrev R : ReadStage → ReaderState
       R stage = record { layout = layout; key = key; places = places; stage = stage }
 
@@ -186,7 +186,7 @@ module _ (v : Volume) (ops : Actor → List Operation) (h : List Event) (by : Ac
   over : (x : Event) (lock : Option Lock) → is_end x ≡ true → lock ≡ None → After (x ∷ []) lock Over
   over x lock is none = (said-end o x is ∙ count, none)
 
-  gave-turn : (course : Course) (key : Key) (lock : Option Lock) → InCourse v.layout op lock course key → (text : List ℕ) (end : WriteEnd)
+  gave-turn : (course : Course) (key : Key) (lock : Option Lock) → IsCourseLock v.layout op lock course key → (text : List ℕ) (end : WriteEnd)
       → Between (e.Gave by number key (is_part course) end ∷ []) (after_gave v.layout course end)
       → After (e.Gave by number key (is_part course) end ∷ []) lock (after_gave v.layout course end)
   gave-turn Alone key lock is text end between = over (e.Gave by number key false end) lock refl is
@@ -194,7 +194,7 @@ module _ (v : Volume) (ops : Actor → List Operation) (h : List Event) (by : Ac
       let x = e.Gave by number key true end in
       finish (x ∷ []) lock (after_gave v.layout (Within r) end) (one-quiet o x refl) (block-later v.layout op lock r key is end) between
 
-  got-turn : (course : Course) (key : Key) (lock : Option Lock) → InCourse v.layout op lock course key → (text : List ℕ) (m : ReadMark) (x : Event) → is_end x ≡ not (is_part course)
+  got-turn : (course : Course) (key : Key) (lock : Option Lock) → IsCourseLock v.layout op lock course key → (text : List ℕ) (m : ReadMark) (x : Event) → is_end x ≡ not (is_part course)
       → Between (x ∷ []) (after_got v.layout course text m) → After (x ∷ []) lock (after_got v.layout course text m)
   got-turn Alone key lock is text m x end between = over x lock end is
   got-turn (Within r) key lock is text m x end between =
@@ -232,7 +232,7 @@ module _ (v : Volume) (ops : Actor → List Operation) (h : List Event) (by : Ac
     locking-turn path (ReadBytes offset size) is none =
         lock-turn path (ReadBytes offset size) false (first_byte v.layout offset) (whole_bytes v.layout offset size) is none (λ fid. refl)
 
-    writing-turn : (course : Course) (text : List ℕ) (layout : Layout) (key : Key) (places : List ℕ) (size : ℕ) → InCourse v.layout op s.lock course key → IsAlone op course
+    writing-turn : (course : Course) (text : List ℕ) (layout : Layout) (key : Key) (places : List ℕ) (size : ℕ) → IsCourseLock v.layout op s.lock course key → IsAlone op course
         → (stage : WriteStage) → Turn (Writing course text (record { layout = layout; key = key; places = places; length = size; stage = stage }))
     writing-turn course text layout key places size is alone writing.Beginning step lk between =
         let W = told v.layout (Writing course text (record { layout = layout; key = key; places = places; length = size; stage = writing.Beginning })) in
@@ -245,9 +245,9 @@ module _ (v : Volume) (ops : Actor → List Operation) (h : List Event) (by : Ac
         go false step lk = same (told v.layout (Writing course text (record { layout = layout; key = key; places = places; length = size; stage = writing.Sending t0 })) t) lk (sending s.lock course text layout key places size is alone t0 t xs false step between)
     writing-turn course text layout key places size is alone (writing.Ended end) step lk between =
         by-say now (SayGave key (is_part course) end) (told v.layout (Writing course text (record { layout = layout; key = key; places = places; length = size; stage = writing.Ended end })))
-        (λ found. gave-turn course key now (subst (λ z. InCourse v.layout op z course key) (sym lk.1) is) found end) t xs step between
+        (λ found. gave-turn course key now (subst (λ z. IsCourseLock v.layout op z course key) (sym lk.1) is) found end) t xs step between
 
-    reading-turn : (course : Course) (layout : Layout) (key : Key) (places : List ℕ) → InCourse v.layout op s.lock course key
+    reading-turn : (course : Course) (layout : Layout) (key : Key) (places : List ℕ) → IsCourseLock v.layout op s.lock course key
         → (stage : ReadStage) → Turn (Reading course (record { layout = layout; key = key; places = places; stage = stage }))
     reading-turn course layout key places is reading.Looking step lk between =
         let W = told v.layout (Reading course (record { layout = layout; key = key; places = places; stage = reading.Looking })) in
@@ -260,7 +260,7 @@ module _ (v : Volume) (ops : Actor → List Operation) (h : List Event) (by : Ac
         go false step lk = same (told v.layout (Reading course (record { layout = layout; key = key; places = places; stage = reading.Fetching t0 })) t) lk (fetching s.lock course layout key places is t0 t xs false step between)
     reading-turn course layout key places is (reading.Ended m) step lk between =
         by-say now (SayGot key (is_part course) m) (told v.layout (Reading course (record { layout = layout; key = key; places = places; stage = reading.Ended m })))
-        (λ found. got-turn course key now (subst (λ z. InCourse v.layout op z course key) (sym lk.1) is) found m (said_event by number found (SayGot key (is_part course) m)) refl) t xs step between
+        (λ found. got-turn course key now (subst (λ z. IsCourseLock v.layout op z course key) (sym lk.1) is) found m (said_event by number found (SayGot key (is_part course) m)) refl) t xs step between
 
     -- The rebuild of a node: a key that is copied is still being fetched.
 

@@ -73,9 +73,9 @@ pub record IsRange (layout : Layout) (op : Operation) (lock : Option Lock) (r : 
 abbrev pub IsPut : Operation → Type 0
 IsPut op = (path : List ℕ) × (block : ℕ) × (text : List ℕ) × (begun op ≡ Opening path (OnBlock (PutBlock block text)))
 
-abbrev pub InCourse : Layout → Operation → Option Lock → Course → Key → Type 0
-InCourse layout op lock Alone key = lock ≡ None
-InCourse layout op lock (Within r) key = IsRange layout op lock r key
+abbrev pub IsCourseLock : Layout → Operation → Option Lock → Course → Key → Type 0
+IsCourseLock layout op lock Alone key = lock ≡ None
+IsCourseLock layout op lock (Within r) key = IsRange layout op lock r key
 
 -- and a block of a range is written where bytes are given
 abbrev pub IsToGive : Aim → Type 0
@@ -92,8 +92,8 @@ IsHolding layout op lock (Calling c) = Unit {0}
 IsHolding layout op lock (Dropping fid n places) = Unit {0}
 IsHolding layout op lock (Opening path plan) = (begun op ≡ Opening path plan) × (lock ≡ None)
 IsHolding layout op lock (Locking path plan) = (begun op ≡ Locking path plan) × (lock ≡ None)
-IsHolding layout op lock (Writing course text s) = InCourse layout op lock course s.key × IsAlone op course
-IsHolding layout op lock (Reading course s) = InCourse layout op lock course s.key
+IsHolding layout op lock (Writing course text s) = IsCourseLock layout op lock course s.key × IsAlone op course
+IsHolding layout op lock (Reading course s) = IsCourseLock layout op lock course s.key
 IsHolding layout op lock (Rebuilding n s) = Unit {0}
 IsHolding layout op lock (Ending answer) = Unit {0}
 IsHolding layout op lock Over = ⊥

@@ -25,7 +25,7 @@ use Rattle.rz_scrub_report.specs.Scrubs.{AreListed, AreFindingsTold, AreUnaltere
 use Rattle.rz_scrub_report.specs.Stores.{HasAsked, AreBinsRead, State}
 use Rattle.rz_report.specs.Output.{Lacks, Sunk}
 use Rattle.rz_report.specs.Telling.{IsPlayOf, PerformsBehind, Says}
-use Rattle.rz_report.specs.Scrubs.{AreFoundFrom, CarriesCounts, Finds, IsFoundIn, IsScrubbable, IsSought, BetweenTurns, LeavesStore, anything, seen_in}
+use Rattle.rz_report.specs.Scrubs.{AreFoundFrom, HoldsOfCounts, Finds, IsFoundIn, IsScrubbable, IsSought, BetweenTurns, LeavesStore, anything, seen_in}
 
 -- What was found with some knowledge of what disks give was found, whatever they give.
 
@@ -167,13 +167,13 @@ leaves_so : {S : Type 0} (tells : Bool) (volume : S → Volume) (world : S → W
     → (end ≡ TooManyTurns → StaysTrue (holds first) (holds played)) → (f : Finds tells volume world journaled holds counts only_asked end wish played last IfFound) → LeavesStore world holds leaves counts only_asked (stops (world last).log) end wish first last f.later
 leaves_so {S} tells volume world journaled holds leaves counts only_asked stops end wish first played last IfFound left held stopped f = so f.left
   where
-    so : ((f.later ≡ []) × (last ≡ played)) ⊎ ((end ≡ Ended) × (wish ≡ Scrub) × only_asked played last × CarriesCounts (holds played) (counts last (f.later ++ (world played).log))) → LeavesStore world holds leaves counts only_asked (stops (world last).log) end wish first last f.later
+    so : ((f.later ≡ []) × (last ≡ played)) ⊎ ((end ≡ Ended) × (wish ≡ Scrub) × only_asked played last × HoldsOfCounts (holds played) (counts last (f.later ++ (world played).log))) → LeavesStore world holds leaves counts only_asked (stops (world last).log) end wish first last f.later
     so (inl (none, same)) =
         let P : S → Type 0 = λ s. IsCut end (holds first) (leaves s) (stops (world s).log) in
         let Q : S → Type 0 = λ s. BetweenTurns end (StaysTrue (holds first) (holds s)) in
         inl (none, subst P (sym same) left, subst Q (sym same) (between end (StaysTrue (holds first) (holds played)) held stopped))
     so (inr (ended, scrubs, asked, counted)) =
-        let P : List Event → Type 0 = λ h. CarriesCounts (holds first) (counts last (f.later ++ h)) in
+        let P : List Event → Type 0 = λ h. HoldsOfCounts (holds first) (counts last (f.later ++ h)) in
         inr (played, scrubs, held ended, asked, subst P (sym f.log_is) (λ b holding. counted b (held ended b holding)))
 
 -- a play, and what was sought after it, as a performance
@@ -182,7 +182,7 @@ module _ {S : Type 0} (tells : Bool) (volume : S → Volume) (world : S → Worl
   cut_so : (IfFound : (List ℕ → Type 0) → Type 0) → Finds tells volume world journaled holds counts only_asked end wish played last IfFound → EndsBy was (cut_off played) end → EndsBy was (cut_off last) end
   cut_so IfFound f cut = so f.left
     where
-      so : ((f.later ≡ []) × (last ≡ played)) ⊎ ((end ≡ Ended) × (wish ≡ Scrub) × only_asked played last × CarriesCounts (holds played) (counts last (f.later ++ (world played).log))) → EndsBy was (cut_off last) end
+      so : ((f.later ≡ []) × (last ≡ played)) ⊎ ((end ≡ Ended) × (wish ≡ Scrub) × only_asked played last × HoldsOfCounts (holds played) (counts last (f.later ++ (world played).log))) → EndsBy was (cut_off last) end
       so (inl (none, same)) = let P : S → Type 0 = λ s. EndsBy was (cut_off s) end in subst P (sym same) cut
       so (inr (ended, scrubs, asked, counted)) = any-end was (cut_off last) end ended
 

@@ -58,8 +58,8 @@ abbrev pub AreScrubsFound : Bool → Volume → List Line → PlayEnd → Wish �
 AreScrubsFound tells v lines end wish h later found = AreFoundFrom tells v (new_world v) lines end wish h later found
 
 -- what was so with what there was before the first line is so of the counts of faults alone
-abbrev pub CarriesCounts : (Before → Type 0) → ((ℕ → ℕ) → Type 0) → Type 0
-CarriesCounts before after = (b : Before) → before b → after b.counts
+abbrev pub HoldsOfCounts : (Before → Type 0) → ((ℕ → ℕ) → Type 0) → Type 0
+HoldsOfCounts before after = (b : Before) → before b → after b.counts
 
 -- A stage that can be scrubbed between two turns: it is a store of its volume with its export and its nodes, what is so of its disks
 -- goes with its log, and it keeps its log and its journal while records are asked for. Over disks that tell their texts the nodes of each published
@@ -70,7 +70,7 @@ pub record IsScrubbable {S : Type 0} (tells : Bool) (volume : S → Volume) (wor
   pub described_is : (s : S) → described s ≡ volume s
   pub state_is : (s : S) (h : List Event) → state s h ≡ seen_in (world s) h
   pub open_is : (s : S) → is_ready s → is_open s
-  pub counted : (s : S) → CarriesCounts (holds s) (counts s (world s).log)
+  pub counted : (s : S) → HoldsOfCounts (holds s) (counts s (world s).log)
   pub short : (s : S) (b : Before) → holds s b → length b.log < 2 ^ 63 + 512
   pub log_is : (s t : S) → only_asked s t → (world t).log ≡ (world s).log
   pub journal_is : (s t : S) → only_asked s t → journaled t ≡ journaled s
@@ -89,7 +89,7 @@ abbrev pub LeavesStore : {S : Type 0} → (S → World) → (S → Before → Ty
     → Type 0
 LeavesStore {S} world holds leaves counts only_asked stops end wish old new later =
     ((later ≡ []) × IsCut end (holds old) (leaves new) stops × BetweenTurns end (StaysTrue (holds old) (holds new)))
-    ⊎ ((played : S) × (wish ≡ Scrub) × StaysTrue (holds old) (holds played) × only_asked played new × CarriesCounts (holds old) (counts new (later ++ (world new).log)))
+    ⊎ ((played : S) × (wish ≡ Scrub) × StaysTrue (holds old) (holds played) × only_asked played new × HoldsOfCounts (holds old) (counts new (later ++ (world new).log)))
 
 -- What came of a stage whose play ended so, and of the lines where there are some.
 pub record Finds {S : Type 0} (tells : Bool) (volume : S → Volume) (world : S → World) (journaled : S → Bool) (holds : S → Before → Type 0) (counts : S → List Event → (ℕ → ℕ) → Type 0) (only_asked : S → S → Type 0)
@@ -99,5 +99,5 @@ pub record Finds {S : Type 0} (tells : Bool) (volume : S → Volume) (world : S 
   pub volume_is : volume new ≡ volume old
   pub log_is : (world new).log ≡ (world old).log
   pub journal_is : journaled new ≡ journaled old
-  pub left : ((later ≡ []) × (new ≡ old)) ⊎ ((end ≡ Ended) × (wish ≡ Scrub) × only_asked old new × CarriesCounts (holds old) (counts new (later ++ (world old).log)))
+  pub left : ((later ≡ []) × (new ≡ old)) ⊎ ((end ≡ Ended) × (wish ≡ Scrub) × only_asked old new × HoldsOfCounts (holds old) (counts new (later ++ (world old).log)))
   pub found : IfFound (IsSought (holds old) tells (volume old) (world old) end wish later)

@@ -22,7 +22,7 @@ use Rattle.rz_node_laws.specs.Images.{IsImaged}
 use Rattle.rz_node_laws.specs.Laws.{IsLongerLaw}
 use Rattle.rz_chronicle.specs.Keys.{IsLater, IsOneOf, events_at, word_key, actor_key}
 use Rattle.rz_chronicle.specs.Kinds.{keeps_legal, volume_in}
-use Rattle.rz_shared_locked.specs.Adding.{Adds, MayBeNext}
+use Rattle.rz_shared_locked.specs.Adding.{AddsEvent, MayBeNext}
 use Rattle.rz_shared_locked.specs.LockedNodes.{IsLogged, MayAsk, IsAskerRight, Answered, IsAnswerAfter, AnsweredAfter}
 use Rattle.rz_shared_locked.specs.Laws.{IsLockedNodeKept, IsAllowedLater, IsAnswerLaw}
 use Rattle.rz_shared_locked.proofs.Logs.{later-trans, later-event, adds-fewer}
@@ -40,7 +40,7 @@ pub later-noted : (h : List Event) (event : Option Event) → IsLater h (noted e
 later-noted h None = ([], refl)
 later-noted h (Some x) = later-event h x
 
-pub later-adds : (ks : List ℕ) (old : List Event) (event : Option Event) (new : List Event) → Adds ks old event new → IsLater old new
+pub later-adds : (ks : List ℕ) (old : List Event) (event : Option Event) (new : List Event) → AddsEvent ks old event new → IsLater old new
 later-adds ks old event new adds =
     subst (IsLater old) (sym adds.last) (later-trans old adds.before (noted event adds.before) adds.later (later-noted adds.before event))
 
@@ -73,7 +73,7 @@ module _ (kind : List ℕ) (earlier h : List Event) (by : Actor) (n : ℕ) (ques
   may-come = if-some (λ x. MayBeNext kind earlier h x) (node_event by n question given) (λ x is keeps. (step-of x is keeps).allowed)
 
   module _ {D : Type 0} (image : D → List ℕ → Type 0) (kept : IsLockedNodeKept image (volume_in kind)) (longer : IsLongerLaw image) (old after : NodeView D) (was : old.state ≡ s) (logged : IsTrue (keeps_legal kind) → IsLogged image (volume_in kind) (h ++ earlier) n old)
-      (ks : List ℕ) (new : List Event) (adds : Adds (word_key (Node n) ∷ ks) h (node_event by n question given) new) (own : IsOneOf (actor_key by) ks) (fit : IsTrue (keeps_legal kind) → IsLegalAfter (volume_in kind) earlier new) where
+      (ks : List ℕ) (new : List Event) (adds : AddsEvent (word_key (Node n) ∷ ks) h (node_event by n question given) new) (own : IsOneOf (actor_key by) ks) (fit : IsTrue (keeps_legal kind) → IsLegalAfter (volume_in kind) earlier new) where
     same-word : events_at (word_key (Node n)) adds.before ≡ events_at (word_key (Node n)) h
     same-word = adds.stays (word_key (Node n)) (inl refl)
 
@@ -111,7 +111,7 @@ module _ (kind : List ℕ) (earlier h : List Event) (by : Actor) (n : ℕ) (ques
 
 -- A fuse that was armed leaves the node as the log gives it.
 pub armed-logged : {D : Type 0} (image : D → List ℕ → Type 0) (v : Volume) (earlier h : List Event) (by : Actor) (n : ℕ) (x : Event) (was after : NodeView D) → IsAllowedLater v earlier h by n x was.state → IsLongerLaw image
-    → IsImaged v (facts (h ++ earlier)) n was.state was.geometry (image after.disk) → after.state ≡ was.state → after.geometry ≡ was.geometry → (ks : List ℕ) (new : List Event) → Adds (word_key (Node n) ∷ ks) h (Some x) new
+    → IsImaged v (facts (h ++ earlier)) n was.state was.geometry (image after.disk) → after.state ≡ was.state → after.geometry ≡ was.geometry → (ks : List ℕ) (new : List Event) → AddsEvent (word_key (Node n) ∷ ks) h (Some x) new
     → IsOneOf (actor_key by) ks → IsLegalAfter v earlier new → IsLogged image v (new ++ earlier) n after
 armed-logged image v earlier h by n x was after step longer imaged state geometry ks new adds own legal =
     let later = later-adds (word_key (Node n) ∷ ks) h (Some x) new adds in record {
@@ -130,7 +130,7 @@ some-part : {A : Type 0} (P Q : A → Type 0) (o : Option A) → IfSome o (λ x.
 some-part P Q None all = tt
 some-part P Q (Some x) all = all.0
 
-pub word-after : AreWordsKept → (by : Actor) (n : ℕ) (ks : List ℕ) (l h new : List Event) (event : Option Event) → l ≡ h → Adds (word_key (Node n) ∷ ks) h event new → IfSome event (λ x. (word_of x ≡ Node n) × (by_of x ≡ by))
+pub word-after : AreWordsKept → (by : Actor) (n : ℕ) (ks : List ℕ) (l h new : List Event) (event : Option Event) → l ≡ h → AddsEvent (word_key (Node n) ∷ ks) h event new → IfSome event (λ x. (word_of x ≡ Node n) × (by_of x ≡ by))
     → of_word (Node n) new ≡ noted event (of_word (Node n) l)
 word-after words by n ks l h new event same adds own =
     ap (of_word (Node n)) adds.last ∙ noted-own n event adds.before (some-part (λ x. word_of x ≡ Node n) (λ x. by_of x ≡ by) event own)

@@ -3,7 +3,7 @@ use Rattle.std.proofs.Common.{ℕ, List, [], ◌∷◌, ◌++◌, Option, Some, 
 use Rattle.rz_events.specs.declared.events.Event.{Event}
 use Rattle.rz_chronicle.specs.Keys.{IsLater}
 use Rattle.rz_chronicle.specs.Holds.{Stays, Commits}
-use Rattle.rz_shared_locked.specs.Adding.{Adds}
+use Rattle.rz_shared_locked.specs.Adding.{AddsEvent}
 
 pub later-self : (h : List Event) → IsLater h h
 later-self h = ([], refl)
@@ -22,7 +22,7 @@ pub stays-fewer : (j : ℕ) (ks : List ℕ) (a b : List Event) → Stays (j ∷ 
 stays-fewer j ks a b p k one = p k (inr one)
 
 -- an addition after a beginning that goes on
-abbrev pub adds-after : (ks : List ℕ) (a b c : List Event) (event : Option Event) → IsLater a b → Stays ks a b → Adds ks b event c → Adds ks a event c
+abbrev pub adds-after : (ks : List ℕ) (a b c : List Event) (event : Option Event) → IsLater a b → Stays ks a b → AddsEvent ks b event c → AddsEvent ks a event c
 adds-after ks a b c event later stays adds = record {
   before = adds.before;
   later = later-trans a b adds.before later adds.later;
@@ -30,7 +30,7 @@ adds-after ks a b c event later stays adds = record {
   last = adds.last;
 }
 
-abbrev pub adds-fewer : (j : ℕ) (ks : List ℕ) (a c : List Event) (event : Option Event) → Adds (j ∷ ks) a event c → Adds ks a event c
+abbrev pub adds-fewer : (j : ℕ) (ks : List ℕ) (a c : List Event) (event : Option Event) → AddsEvent (j ∷ ks) a event c → AddsEvent ks a event c
 adds-fewer j ks a c event adds = record {
   before = adds.before;
   later = adds.later;
@@ -39,10 +39,10 @@ adds-fewer j ks a c event adds = record {
 }
 
 -- an event was added
-pub adds-commits : (ks : List ℕ) (a c : List Event) (x : Event) → Adds ks a (Some x) c → Commits ks a x c
+pub adds-commits : (ks : List ℕ) (a c : List Event) (x : Event) → AddsEvent ks a (Some x) c → Commits ks a x c
 adds-commits ks a c x adds = record { before = adds.before; later = adds.later; stays = adds.stays; last = adds.last }
 
-pub commits-adds : (ks : List ℕ) (a c : List Event) (x : Event) → Commits ks a x c → Adds ks a (Some x) c
+pub commits-adds : (ks : List ℕ) (a c : List Event) (x : Event) → Commits ks a x c → AddsEvent ks a (Some x) c
 commits-adds ks a c x it = record { before = it.before; later = it.later; stays = it.stays; last = it.last }
 
 pub commits-after : (ks : List ℕ) (a b c : List Event) (x : Event) → IsLater a b → Stays ks a b → Commits ks b x c → Commits ks a x c

@@ -11,7 +11,7 @@ use Rattle.rz_chronicle.specs.Holds.{Stays}
 
 -- An event was added to the log, or none was: the new log is that event on top of one that goes on from the old one, and in
 -- which the events of these keys are the old ones.
-pub record Adds (ks : List ℕ) (old : List Event) (event : Option Event) (new : List Event) : Type 0 where
+pub record AddsEvent (ks : List ℕ) (old : List Event) (event : Option Event) (new : List Event) : Type 0 where
   pub before : List Event
   pub later : IsLater old before
   pub stays : Stays ks old before

@@ -15,7 +15,7 @@ use Rattle.rz_core.specs.History.{Begun, facts, of_word, wrote}
 use Rattle.rz_core.specs.Tied.{IsExport}
 use Rattle.rz_chronicle.specs.Kinds.{is_honest, keeps_legal, volume_in}
 use Rattle.rz_chronicle.specs.Tokens.{mark}
-use Rattle.rz_shared_locked.specs.Adding.{Adds}
+use Rattle.rz_shared_locked.specs.Adding.{AddsEvent}
 
 -- An export of the volume replies so, or memory is wanting; over an honest book it is the one that the log gives.
 pub record IsReplyAt (kind : List ℕ) (h : List Event) (question : Call) (given : Reply) : Type 0 where
@@ -27,7 +27,7 @@ pub record IsReplyAt (kind : List ℕ) (h : List Event) (question : Call) (given
 -- What a call did to the log that its pass has seen: its event, if it has one, stands on top of a log after which the
 -- reply is right.
 pub record Replied (kind : List ℕ) (question : Call) (given : Reply) (event : Option Event) (ks : List ℕ) (old new : List Event) : Type 0 where
-  pub adds : Adds ks old event new
+  pub adds : AddsEvent ks old event new
   pub right : IsReplyAt kind adds.before question given
 
 -- The same in a book that goes on after an earlier log, which stands behind the log of this run.
@@ -39,7 +39,7 @@ pub record IsReplyAfter (kind : List ℕ) (earlier h : List Event) (question : C
   pub tied : IsTrue (keeps_legal kind) → IsExport (volume_in kind) (facts (h ++ earlier)) (of_word Export (h ++ earlier)) state
 
 pub record RepliedAfter (kind : List ℕ) (earlier : List Event) (question : Call) (given : Reply) (event : Option Event) (ks : List ℕ) (old new : List Event) : Type 0 where
-  pub adds : Adds ks old event new
+  pub adds : AddsEvent ks old event new
   pub right : IsReplyAfter kind earlier adds.before question given
 
 -- the event of a reply that has one

@@ -21,7 +21,7 @@ use Rattle.rz_node_laws.specs.Images.{AreImages, IsImaged, geometry_in}
 use Rattle.rz_node_laws.specs.Laws.{IsReadBack}
 use Rattle.rz_chronicle.specs.Keys.{IsLater, events_at, word_key}
 use Rattle.rz_chronicle.specs.Kinds.{is_honest, keeps_legal, volume_in}
-use Rattle.rz_shared_locked.specs.Adding.{Adds}
+use Rattle.rz_shared_locked.specs.Adding.{AddsEvent}
 
 -- what contracts see of a locked node: its node's number, and the log in which its word moved last
 pub record LockedNodeView : Type 0 where
@@ -61,7 +61,7 @@ pub record IsAnswerAt (kind : List ℕ) (h : List Event) (n : ℕ) (question : N
 -- What a call did to the log that its pass has seen: its event, if it has one, stands on top of a log after which the
 -- answer is right.
 pub record Answered (kind : List ℕ) (n : ℕ) (question : NodeAsk) (given : NodeAnswer) (event : Option Event) (ks : List ℕ) (old new : List Event) : Type 0 where
-  pub adds : Adds ks old event new
+  pub adds : AddsEvent ks old event new
   pub right : IsAnswerAt kind adds.before n question given
 
 -- The same in a book that goes on after an earlier log, which stands behind the log of this run.
@@ -77,7 +77,7 @@ pub record IsAnswerAfter (kind : List ℕ) (earlier h : List Event) (n : ℕ) (q
   pub opening : IsTrue (keeps_legal kind) → IsOpening given
 
 pub record AnsweredAfter (kind : List ℕ) (earlier : List Event) (n : ℕ) (question : NodeAsk) (given : NodeAnswer) (event : Option Event) (ks : List ℕ) (old new : List Event) : Type 0 where
-  pub adds : Adds ks old event new
+  pub adds : AddsEvent ks old event new
   pub right : IsAnswerAfter kind earlier adds.before n question given
 
 -- a record that was fetched is that of its write, with its bins

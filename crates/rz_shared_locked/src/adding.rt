@@ -3,7 +3,7 @@ ghost use Rattle.std.specs.Prelude.{◌≡◌, ◌+◌, ◌<◌, ◌^◌, ◌∷
 ghost use Rattle.rz_events.specs.Events.{word_of, by_of};
 ghost use Rattle.rz_chronicle.specs.Keys.{count_at, word_key};
 ghost use Rattle.rz_chronicle.specs.Kinds.{IsFit, IsFitAfter};
-ghost use Rattle.rz_shared_locked.specs.Adding.{Adds, MayBeNext};
+ghost use Rattle.rz_shared_locked.specs.Adding.{AddsEvent, MayBeNext};
 
 use crate::counting::Metering;
 use rz_chronicle::{Book, Itself, Pass, WordToken};
@@ -22,7 +22,7 @@ pub(crate) fn add<J: Metering>(
     requires room { count_at (word_key word_token.old.word) word_token.old.log + 1 < 2 ^ 64 }
     ensures same { (pass.new.actor ≡ pass.old.actor) × (pass.new.keys ≡ pass.old.keys) × (word_token.new.word ≡ word_token.old.word) }
     ensures one { word_token.new.log ≡ pass.new.log }
-    ensures adds { Adds (word_key word_token.old.word ∷ pass.old.keys) pass.old.log event pass.new.log }
+    ensures adds { AddsEvent (word_key word_token.old.word ∷ pass.old.keys) pass.old.log event pass.new.log }
     ensures fit { IsFit J.kind pass.new.log }
     ensures after { IsFitAfter J.kind pass.new.log }
 {

@@ -22,7 +22,7 @@ use Rattle.rz_play_laws.proofs.Frames.{of_actor-mine}
 use Rattle.rz_chronicle.specs.Keys.{IsOneOf, events_at, actor_key}
 use Rattle.rz_chronicle.specs.Kinds.{IsFit, is_honest, volume_in}
 use Rattle.rz_chronicle.specs.Holds.{Commits}
-use Rattle.rz_shared_locked.specs.Adding.{Adds}
+use Rattle.rz_shared_locked.specs.Adding.{AddsEvent}
 use Rattle.rz_shared_locked.specs.LockedNodes.{IsAskerRight}
 use Rattle.rz_threads_steps.specs.Adding.{AddsOwn}
 
@@ -31,7 +31,7 @@ AreKept = (a : Actor) (h g : List Event) → events_at (actor_key a) h ≡ event
 
 module _ (kept : AreKept) (kind : List ℕ) (telling : IsTelling (volume_in kind)) (one : IsOneRun (volume_in kind)) (by : Actor) (ks : List ℕ) (has : IsOneOf (actor_key by) ks) (old new : List Event) where
   -- an event was added
-  one-more : (x : Event) → by_of x ≡ by → IsFit kind new → Adds ks old (Some x) new → AddsOwn (volume_in kind) (is_honest kind) by old (Some x) new
+  one-more : (x : Event) → by_of x ≡ by → IsFit kind new → AddsEvent ks old (Some x) new → AddsOwn (volume_in kind) (is_honest kind) by old (Some x) new
   one-more x by_is fit it = record {
     later = (x ∷ it.later.0, it.last ∙ ap (λ (h : List Event). x ∷ h) it.later.1);
     own = ap (of_actor by) it.last ∙ of_actor-mine by (x ∷ []) it.before (by_is, tt) ∙ ap (λ (h : List Event). x ∷ h) (kept by it.before old (it.stays (actor_key by) has));
@@ -40,14 +40,14 @@ module _ (kept : AreKept) (kind : List ℕ) (telling : IsTelling (volume_in kind
   }
 
   -- none was
-  none-more : Adds ks old None new → AddsOwn (volume_in kind) (is_honest kind) by old None new
+  none-more : AddsEvent ks old None new → AddsOwn (volume_in kind) (is_honest kind) by old None new
   none-more it = record {
     later = (it.later.0, it.last ∙ it.later.1);
     own = ap (of_actor by) it.last ∙ kept by it.before old (it.stays (actor_key by) has);
     said = λ honest. tt;
   }
 
-  pub adds-own : (event : Option Event) → ((x : Event) → event ≡ Some x → by_of x ≡ by) → IsFit kind new → Adds ks old event new → AddsOwn (volume_in kind) (is_honest kind) by old event new
+  pub adds-own : (event : Option Event) → ((x : Event) → event ≡ Some x → by_of x ≡ by) → IsFit kind new → AddsEvent ks old event new → AddsOwn (volume_in kind) (is_honest kind) by old event new
   adds-own (Some x) mine fit it = one-more x (mine x refl) fit it
   adds-own None mine fit it = none-more it
 

@@ -1,7 +1,7 @@
 //! What a worker has to do.
 ghost use Rattle.std.specs.Prelude.{◌≡◌, not, OnOk};
 ghost use Rattle.std.specs.List.{AllByRecursion};
-ghost use Rattle.rz_operation.specs.Answers.{IsOperation};
+ghost use Rattle.rz_operation.specs.Answers.{IsWithinLayout};
 ghost use Rattle.rz_play.specs.World.{has_work, is_over};
 ghost use Rattle.rz_threads_worker.specs.Workers.{agenda_of, BeginsNext};
 
@@ -49,7 +49,7 @@ impl Agenda {
         alloc: Global,
         layout: Layout,
     ) -> Result<(), Halted>
-        requires { AllByRecursion (IsOperation layout) self.old.todo.items }
+        requires { AllByRecursion (IsWithinLayout layout) self.old.todo.items }
         ensures { OnOk result (BeginsNext layout self.old self.new) }
     {
         if self.is_at_work() {

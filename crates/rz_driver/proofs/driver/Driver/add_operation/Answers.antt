@@ -3,7 +3,7 @@ use Rattle.std.specs.Prelude.{slice_get}
 use Rattle.std.specs.List.{AllByRecursion}
 use Rattle.std.proofs.lemmas.Option.{slice_get_read}
 use Rattle.rz_events.specs.declared.operations.Operation.{Operation}
-use Rattle.rz_operation.specs.Answers.{IsOperation}
+use Rattle.rz_operation.specs.Answers.{IsWithinLayout}
 use Rattle.rz_play.specs.World.{World}
 use Rattle.rz_play.specs.Lines.{with_operation}
 use Rattle.rz_player.specs.Behind.{behind}
@@ -37,11 +37,11 @@ returns-clause-ready g c =
     let here : slice_get d.agendas.items c.in-Some.place ≡ Some s = slice_get_read d.agendas.items (length d.agendas.items) c.in-Some.place s refl low c.index_mut.ensures.value in
     let shape = all-at (IsAgenda d.volume.layout) d.agendas.items c.in-Some.place s c.requires.ready.agendas here in
     let e = c.in_ok-add.ensures in
-    let fits = subst (IsOperation d.volume.layout) (sym c.in_ok-op.ensures) (takes d.volume c.args.by c.args.op.now c.requires.line.1) in
+    let fits = subst (IsWithinLayout d.volume.layout) (sym c.in_ok-op.ensures) (takes d.volume c.args.by c.args.op.now c.requires.line.1) in
     still-ready d _ c.args.by c.in-Some.place s b c.requires.ready refl refl refl at low here
     (record {
       machine = subst (HasLayout d.volume.layout) (sym e.machine) shape.machine;
-      todo = subst (AllByRecursion (IsOperation d.volume.layout)) (sym e.todo) (all-more d.volume.layout s.todo.items c.in_ok-op.op shape.todo fits);
+      todo = subst (AllByRecursion (IsWithinLayout d.volume.layout)) (sym e.todo) (all-more d.volume.layout s.todo.items c.in_ok-op.op shape.todo fits);
     }) e.lock
 
 pub returns-clause-played : goal.returns-clause-played

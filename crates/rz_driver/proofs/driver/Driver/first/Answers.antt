@@ -5,7 +5,7 @@ use Rattle.rz_nodes.specs.Formatted.{AreFormatted, IsCause, disks_of}
 use Rattle.rz_nodes.proofs.FormatLemmas.{untouched}
 use Rattle.rz_driver_nodes.specs.Meters.{faults_at}
 use Rattle.rz_driver.specs.declared.driver.Driver.{Driver}
-use Rattle.rz_driver.specs.Formatted.{AreBackWithJournal, IsBehindJournal, IsJournalRefused}
+use Rattle.rz_driver.specs.Formatted.{AreBackWithJournal, IsBehindJournal, IsJournalUnmade}
 use Rattle.rz_driver.specs.Worlds.{HasCounted, anew, HoldsBetweenTurns}
 use Rattle.rz_driver.proofs.BehindJournal.{back-count, behind-counted, behind-holds, behind-made, behind-ready, behind-world, back-with, cause-with, front-count, has-last, refused-back, refused-cause}
 use Rattle.rz_driver.proofs.MadeLemmas.{as-many}
@@ -94,9 +94,9 @@ returns-in-Ok-new-clause-back g c =
     let tells = g.D.Disk.tells in
     let meter = g.D.Disk.meter in
     let image = g.D.Disk.image in
-    IfErr-weaker c.behind_journal.result (λ r. IsJournalRefused tells meter image d.volume (disks_of row) journal r.0.items r.1) (λ r. AreBackWithJournal tells meter image v c.args.disks.items r.0.items)
+    IfErr-weaker c.behind_journal.result (λ r. IsJournalUnmade tells meter image d.volume (disks_of row) journal r.0.items r.1) (λ r. AreBackWithJournal tells meter image v c.args.disks.items r.0.items)
     (λ r refused.
-    let here = subst (λ (u : Volume). IsJournalRefused tells meter image u (disks_of row) journal r.0.items r.1) c.in-Ok-new.ensures.volume refused in
+    let here = subst (λ (u : Volume). IsJournalUnmade tells meter image u (disks_of row) journal r.0.items r.1) c.in-Ok-new.ensures.volume refused in
     refused-back tells meter g.D.Disk.text image v nodes journal row r.0.items r.1 here c.args.disks.items c.in-Ok.ensures.split c.in-Ok-new.ensures.made)
     c.behind_journal.ensures.back
 
@@ -113,7 +113,7 @@ returns-in-Ok-new-clause-cause g c =
     let image = g.D.Disk.image in
     let count = front-count c.args.disks.items nodes journal (length (nodes_of v.clusters)) c.in-Ok.ensures.split c.requires.count in
     let many = count ∙ sym (as-many tells meter text image v.layout (nodes_of v.clusters) nodes row count c.in-Ok-new.ensures.made) in
-    IfErr-weaker c.behind_journal.result (λ r. IsJournalRefused tells meter image d.volume (disks_of row) journal r.0.items r.1) (λ r. IsCause meter c.args.disks.items r.0.items r.1)
+    IfErr-weaker c.behind_journal.result (λ r. IsJournalUnmade tells meter image d.volume (disks_of row) journal r.0.items r.1) (λ r. IsCause meter c.args.disks.items r.0.items r.1)
     (λ r refused. refused-cause tells meter text image d.volume nodes journal row r.0.items r.1 refused c.args.disks.items c.in-Ok.ensures.split many)
     c.behind_journal.ensures.back
 

@@ -1,6 +1,6 @@
 use Rattle.std.proofs.Common.{refl, sym, ◌∙◌, ap, subst, arith}
 use Rattle.std.specs.List.{AllByRecursion}
-use Rattle.rz_operation.specs.Answers.{IsOperation}
+use Rattle.rz_operation.specs.Answers.{IsWithinLayout}
 use Rattle.rz_driver_actors.specs.Hands.{HasTrueHand}
 use Rattle.rz_driver_actors.specs.Agendas.{agenda_of, work_in, HasLayout, LosesNext}
 use Rattle.rz_driver_nodes.proofs.CoherenceLemmas.{on-err}
@@ -16,7 +16,7 @@ returns-clause-ok c =
 pub returns-clause-agenda : goal.returns-clause-agenda
 returns-clause-agenda c = record {
   machine = subst (HasLayout c.args.layout) (sym c.replace.ensures.after) c.in_ok-machine.ensures.layout;
-  todo = (subst (AllByRecursion (IsOperation c.args.layout)) c.in-Some.ensures.items c.requires.todo).1;
+  todo = (subst (AllByRecursion (IsWithinLayout c.args.layout)) c.in-Some.ensures.items c.requires.todo).1;
 }
 
 pub returns-clause-hand : goal.returns-clause-hand

@@ -15,7 +15,7 @@ use Rattle.rz_play.specs.Faults.{fuse_of}
 use Rattle.rz_play.specs.Lines.{noted}
 use Rattle.rz_chronicle.specs.Keys.{word_key}
 use Rattle.rz_chronicle.specs.Kinds.{keeps_legal, volume_in}
-use Rattle.rz_shared_locked.specs.Adding.{Adds, MayBeNext}
+use Rattle.rz_shared_locked.specs.Adding.{AddsEvent, MayBeNext}
 use Rattle.rz_shared_locked.specs.Counts.{GoesWith}
 use Rattle.rz_shared_locked.specs.Picks.{pick_of}
 use Rattle.rz_shared_locked.specs.LockedNodes.{LockedNodeView, IsLogged, MayAsk, AnsweredAfter, IsTrueRecord}
@@ -126,9 +126,9 @@ invariant_of-self g c =
     let new = c.add.new.pass.log in
     let after = c.serve-answer.new.node in
     let ks = c.args.pass.now.keys in
-    let adds : Adds (word_key (w.Node n) ∷ ks) h (node_event by n q given) new =
-    subst (λ (u : Word). Adds (word_key u ∷ ks) h (node_event by n q given) new) inv.0
-    (subst (λ (o : Option Event). Adds (word_key c.self.inside.word_token.word ∷ ks) h o new) event c.add.ensures.adds) in
+    let adds : AddsEvent (word_key (w.Node n) ∷ ks) h (node_event by n q given) new =
+    subst (λ (u : Word). AddsEvent (word_key u ∷ ks) h (node_event by n q given) new) inv.0
+    (subst (λ (o : Option Event). AddsEvent (word_key c.self.inside.word_token.word ∷ ks) h o new) event c.add.ensures.adds) in
     let new_fit : IsTrue (keeps_legal kind) → IsLegalAfter v earlier new = λ keeps. c.one_rule.ensures.legal kind earlier new c.actor-by.ensures.earlier keeps (c.add.ensures.fit, c.add.ensures.after) in
     let own = its-event kind earlier h by n q given was.state c.args.bins.now (c.answers.ensures v) it may in
     let word : of_word (w.Node n) c.add.new.word_token.log ≡ noted (node_event by n q given) (of_word (w.Node n) c.self.inside.word_token.log) =
@@ -184,9 +184,9 @@ returns-clause-answered g c =
     let new = c.add.new.pass.log in
     let after = c.serve-answer.new.node in
     let ks = c.args.pass.now.keys in
-    let adds : Adds (word_key (w.Node n) ∷ ks) h (node_event by n q given) new =
-    subst (λ (u : Word). Adds (word_key u ∷ ks) h (node_event by n q given) new) inv.0
-    (subst (λ (o : Option Event). Adds (word_key c.self.inside.word_token.word ∷ ks) h o new) event c.add.ensures.adds) in
+    let adds : AddsEvent (word_key (w.Node n) ∷ ks) h (node_event by n q given) new =
+    subst (λ (u : Word). AddsEvent (word_key u ∷ ks) h (node_event by n q given) new) inv.0
+    (subst (λ (o : Option Event). AddsEvent (word_key c.self.inside.word_token.word ∷ ks) h o new) event c.add.ensures.adds) in
     let new_fit : IsTrue (keeps_legal kind) → IsLegalAfter v earlier new = λ keeps. c.one_rule.ensures.legal kind earlier new c.actor-by.ensures.earlier keeps (c.add.ensures.fit, c.add.ensures.after) in
     subst (λ (m : ℕ). AnsweredAfter kind earlier m q given (node_event by m q given) ks h new) node
     (answered kind earlier h by n q given was.state c.args.bins.now (c.answers.ensures v) it may image (c.locked_node_kept.ensures v) c.longer.ensures was after refl logged ks new adds c.actor-by.ensures.own new_fit)
@@ -225,9 +225,9 @@ returns-clause-read g c =
     let new = c.add.new.pass.log in
     let after = c.serve-answer.new.node in
     let ks = c.args.pass.now.keys in
-    let adds : Adds (word_key (w.Node n) ∷ ks) h (node_event by n q given) new =
-    subst (λ (u : Word). Adds (word_key u ∷ ks) h (node_event by n q given) new) inv.0
-    (subst (λ (o : Option Event). Adds (word_key c.self.inside.word_token.word ∷ ks) h o new) event c.add.ensures.adds) in
+    let adds : AddsEvent (word_key (w.Node n) ∷ ks) h (node_event by n q given) new =
+    subst (λ (u : Word). AddsEvent (word_key u ∷ ks) h (node_event by n q given) new) inv.0
+    (subst (λ (o : Option Event). AddsEvent (word_key c.self.inside.word_token.word ∷ ks) h o new) event c.add.ensures.adds) in
     λ keeps. subst (λ (m : ℕ). IsTrueRecord v (facts (new ++ earlier)) m q given c.args.bins.now c.serve-answer.new.bins) node
     (c.read_kept.ensures v earlier h new n q given c.args.bins.now c.serve-answer.new.bins (later-adds (word_key (w.Node n) ∷ ks) h (node_event by n q given) new adds)
     (c.serve-answer.ensures.read (inv.3 keeps).0 v (facts (h ++ earlier)) n (logged keeps).imaged))

@@ -9,7 +9,7 @@ use Rattle.rz_core.specs.Legal.{IsLegalAfter}
 use Rattle.rz_play.specs.Faults.{fuse_of}
 use Rattle.rz_chronicle.specs.Keys.{word_key}
 use Rattle.rz_chronicle.specs.Kinds.{keeps_legal, volume_in}
-use Rattle.rz_shared_locked.specs.Adding.{Adds}
+use Rattle.rz_shared_locked.specs.Adding.{AddsEvent}
 use Rattle.rz_shared_locked.specs.Counts.{GoesWith}
 use Rattle.rz_shared_locked.specs.Laws.{IsAllowedLater}
 use Rattle.rz_shared_locked.specs.Picks.{pick_of}
@@ -66,7 +66,7 @@ invariant_of-self g c =
     let after = c.arm.new.self in
     let x = e.Armed n c.args.passes c.args.pick in
     let ks = c.args.pass.now.keys in
-    let adds : Adds (word_key (w.Node n) ∷ ks) h (Some x) new = subst (λ (u : Word). Adds (word_key u ∷ ks) h (Some x) new) inv.0 c.add.ensures.adds in
+    let adds : AddsEvent (word_key (w.Node n) ∷ ks) h (Some x) new = subst (λ (u : Word). AddsEvent (word_key u ∷ ks) h (Some x) new) inv.0 c.add.ensures.adds in
     let word : of_word (w.Node n) c.add.new.word_token.log ≡ x ∷ of_word (w.Node n) c.self.inside.word_token.log =
     ap (of_word (w.Node n)) c.add.ensures.one ∙ word-after c.words_kept.ensures Admin n ks c.self.inside.word_token.log h new (Some x) log adds (refl, refl) in (
       c.add.ensures.same.2 ∙ inv.0,
