@@ -17,7 +17,7 @@ use Rattle.rz_events.specs.declared.machines.WriterAnswer.TheVariants as told
 use Rattle.rz_client_model.specs.declared.writing.WriterState.{WriterState}
 use Rattle.rz_client_model.specs.declared.writing.WriteStage.{WriteStage}
 use Rattle.rz_client_model.specs.declared.writing.WriteStage.TheVariants.{Beginning, Sending, Ended}
-use Rattle.rz_client_model.specs.declared.writing.Sent.{Sent}
+use Rattle.rz_client_model.specs.declared.writing.SentRecords.{SentRecords}
 use Rattle.rz_client_model.specs.Write.{why_of, is_kept, mask_of, none_sent, ask_at, writer_start, writer_ask, writer_told, after_answer, after_enrolled, unless_too_few, IsWriterAnswer, IsKeepAnswer, IsPublishAnswer}
 use Rattle.rz_block_io_laws.specs.Writes.{after, AreAnswers, stamp_in, base_in, outcomes, table, kept_in, failed_in, IsNewest, IsAskAfter, IsEndAfter, AsksInOrder}
 use Rattle.rz_client_model.proofs.Masks.{safe-few, forward-less, one-if, bit_at-mask_of, mask_of-append}
@@ -57,7 +57,7 @@ newest-same [] a b p q = absurd p
 newest-same (x ∷ xs) a b p q = sym p ∙ q
 
 -- what a write has sent is what its answers say
-pub record IsSending (layout : Layout) (answers : List WriterAnswer) (t : Sent) : Type 0 where
+pub record IsSending (layout : Layout) (answers : List WriterAnswer) (t : SentRecords) : Type 0 where
   pub stamp_is : t.stamp ≡ stamp_in answers
   pub base_is : t.base ≡ base_in answers
   pub why_is : t.why ≡ table answers
@@ -78,7 +78,7 @@ IsCourse layout answers (Sending t) = IsSending layout answers t
 IsCourse layout answers (Ended e) = IsEndAfter layout answers e × IsOverSo layout answers e
 
 -- more has been sent, and an end comes where too much has failed
-module _ (layout : Layout) (new : List WriterAnswer) (t : Sent) (stamp_is : t.stamp ≡ stamp_in new) (base_is : t.base ≡ base_in new)
+module _ (layout : Layout) (new : List WriterAnswer) (t : SentRecords) (stamp_is : t.stamp ≡ stamp_in new) (base_is : t.base ≡ base_in new)
     (why_is : t.why ≡ table new) (kept_is : t.kept ≡ kept_in new) (asked_is : t.kept + t.failed ≡ length (outcomes new))
     (few : t.kept ≤ forward_of layout) (going : IsGoing new) where
   pub sent-more : t.failed + forward_of layout ≤ safe_of layout → IsCourse layout new (Sending t)
@@ -105,7 +105,7 @@ module _ (layout : Layout) (new : List WriterAnswer) (t : Sent) (stamp_is : t.st
       sent-more (omega (arith, past, forward-less layout))
 
 -- what came of the next position
-module _ (layout : Layout) (answers new : List WriterAnswer) (w : Why) (t : Sent) (h : IsSending layout answers t) (more : t.kept < forward_of layout)
+module _ (layout : Layout) (answers new : List WriterAnswer) (w : Why) (t : SentRecords) (h : IsSending layout answers t) (more : t.kept < forward_of layout)
     (stamp_same : stamp_in new ≡ stamp_in answers) (base_same : base_in new ≡ base_in answers)
     (outcomes_are : outcomes new ≡ outcomes answers ++ w ∷ []) (going : IsGoing new) where
   asked-more : length (outcomes new) ≡ t.kept + t.failed + 1
@@ -134,7 +134,7 @@ module _ (layout : Layout) (answers new : List WriterAnswer) (w : Why) (t : Sent
       (h.stamp_is ∙ sym stamp_same) (h.base_is ∙ sym base_same) why-more kept (omega (arith, asked-more)) (omega (arith, more)) going _ refl
 
 -- a position of the mask has failed after all
-after-enrolled-course : (layout : Layout) (answers : List WriterAnswer) (t : Sent) (position fence : ℕ) → IsSending layout answers t →
+after-enrolled-course : (layout : Layout) (answers : List WriterAnswer) (t : SentRecords) (position fence : ℕ) → IsSending layout answers t →
     bit_at (mask_of t.why) position ≡ 1 → IsCourse layout (told.Enrolled position fence ∷ answers) (after_enrolled layout t position)
 after-enrolled-course layout answers t position fence h named =
     let ws = outcomes answers in
@@ -173,7 +173,7 @@ deny-course layout [] denial e = (refl, omega (arith, forward-less layout))
 deny-course layout (x ∷ xs) denial e = cc
 
 -- an answer to a keep
-keep-course : (layout : Layout) (answers : List WriterAnswer) (t : Sent) (answer : WriterAnswer) → IsSending layout answers t → t.kept < forward_of layout →
+keep-course : (layout : Layout) (answers : List WriterAnswer) (t : SentRecords) (answer : WriterAnswer) → IsSending layout answers t → t.kept < forward_of layout →
     IsKeepAnswer answer → IsCourse layout (answer ∷ answers) (after_answer layout (Sending t) answer)
 keep-course layout answers t (told.Kept a) h more asked =
     after-keep layout answers (told.Kept a ∷ answers) (why_of a) t h more refl refl refl refl _ refl
@@ -186,7 +186,7 @@ keep-course layout answers t (told.Enrolled position fence) h more asked = absur
 keep-course layout answers t (told.Revoked later) h more asked = absurd asked
 
 -- an answer to a publish
-publish-course : (layout : Layout) (answers : List WriterAnswer) (t : Sent) (answer : WriterAnswer) → IsSending layout answers t →
+publish-course : (layout : Layout) (answers : List WriterAnswer) (t : SentRecords) (answer : WriterAnswer) → IsSending layout answers t →
     IsPublishAnswer (mask_of t.why) answer → IsCourse layout (answer ∷ answers) (after_answer layout (Sending t) answer)
 publish-course layout answers t told.Accepted h asked =
     let ws = outcomes answers in
@@ -198,7 +198,7 @@ publish-course layout answers t (told.Begun stamp base) h asked = absurd asked
 publish-course layout answers t (told.Kept a) h asked = absurd asked
 publish-course layout answers t told.Missed h asked = absurd asked
 
-sending-course : (layout : Layout) (answers : List WriterAnswer) (t : Sent) (answer : WriterAnswer) (position node : ℕ) → IsSending layout answers t → (b : Bool) →
+sending-course : (layout : Layout) (answers : List WriterAnswer) (t : SentRecords) (answer : WriterAnswer) (position node : ℕ) → IsSending layout answers t → (b : Bool) →
     nat_lt t.kept (forward_of layout) ≡ b →
     IsWriterAnswer (cond b (ask.Keep position node t.stamp t.base) (ask.Publish t.stamp (mask_of t.why))) answer →
     IsCourse layout (answer ∷ answers) (after_answer layout (Sending t) answer)
@@ -237,7 +237,7 @@ course layout key places size (answer ∷ earlier) h =
 
 -- What is asked.
 
-asks-sending : (layout : Layout) (places : List ℕ) (size : ℕ) (answers : List WriterAnswer) (t : Sent) → IsSending layout answers t → (b : Bool) →
+asks-sending : (layout : Layout) (places : List ℕ) (size : ℕ) (answers : List WriterAnswer) (t : SentRecords) → IsSending layout answers t → (b : Bool) →
     nat_lt t.kept (forward_of layout) ≡ b →
     IsAskAfter layout places size answers (cond b (ask.Keep (t.kept + t.failed) (slice_index places (t.kept + t.failed)) t.stamp t.base) (ask.Publish t.stamp (mask_of t.why)))
 asks-sending layout places size answers t h true test = record { ascending = h.asked_is; of_place = refl; begun = h.stamp_is; based = h.base_is }

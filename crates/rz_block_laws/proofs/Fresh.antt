@@ -18,7 +18,7 @@ use Rattle.rz_events.specs.declared.machines.FileEnd.TheVariants as file
 use Rattle.rz_events.specs.declared.events.Answer.{Answer}
 use Rattle.rz_client_model.specs.declared.writing.WriterState.{WriterState}
 use Rattle.rz_client_model.specs.Write.{writer_end}
-use Rattle.rz_operation_model.specs.Ranges.{Aim, Taking, Giving, Range, is_whole, passed, cut, start_in, count_in}
+use Rattle.rz_operation_model.specs.Ranges.{Aim, Taking, Giving, RangeState, is_whole, passed, cut, start_in, count_in}
 use Rattle.rz_operation_model.specs.Files.{next_block, go_on, with_text, after_part, after_block}
 use Rattle.rz_operation_model.specs.Files as files
 use Rattle.rz_operation_model.specs.Work.{PutBlock, GetBlock, Plan, OnBlock, OnRange, RangePlan, WriteBytes, ReadBytes, Course, Alone, Within, Calling, Dropping, Opening, Locking, Writing, Rebuilding, Ending}
@@ -31,7 +31,7 @@ use Rattle.rz_block_laws.specs.Acting.{KnowsTexts}
 module _ (f : Facts) where
   -- ---- ranges
 
-  next-block : (z : Layout) (r : Range) (aim : Aim) → KnowsTexts f (in_range (next_block z r aim))
+  next-block : (z : Layout) (r : RangeState) (aim : Aim) → KnowsTexts f (in_range (next_block z r aim))
   next-block z r (Taking bytes) = tt
   next-block z r (Giving bytes) = go (is_whole z r)
     where
@@ -39,23 +39,23 @@ module _ (f : Facts) where
       go true = tt
       go false = tt
 
-  on : (z : Layout) (r : Range) → KnowsTexts f (in_range (go_on z r))
+  on : (z : Layout) (r : RangeState) → KnowsTexts f (in_range (go_on z r))
   on z r = go (r.done == r.size)
     where
       go : (b : Bool) → KnowsTexts f (in_range (cond b (files.Ended r (file.Whole r.done)) (next_block z r r.aim)))
       go true = tt
       go false = next-block z r r.aim
 
-  text : (z : Layout) (r : Range) (found : List ℕ) (aim : Aim) → KnowsTexts f (in_range (with_text z r found aim))
+  text : (z : Layout) (r : RangeState) (found : List ℕ) (aim : Aim) → KnowsTexts f (in_range (with_text z r found aim))
   text z r found (Taking bytes) = on z (passed z r (Taking (bytes ++ cut (start_in z r) (count_in z r) found)))
   text z r found (Giving bytes) = tt
 
-  part : (z : Layout) (r : Range) (found : List ℕ) (m : ReadMark) → KnowsTexts f (in_range (after_part z r found m))
+  part : (z : Layout) (r : RangeState) (found : List ℕ) (m : ReadMark) → KnowsTexts f (in_range (after_part z r found m))
   part z r found (mark.Found stamp size) = text z r found r.aim
   part z r found mark.Hole = text z r [] r.aim
   part z r found _ = tt
 
-  block : (z : Layout) (r : Range) (e : WriteEnd) → KnowsTexts f (in_range (after_block z r e))
+  block : (z : Layout) (r : RangeState) (e : WriteEnd) → KnowsTexts f (in_range (after_block z r e))
   block z r (write.Acked stamp mask) = on z (passed z r r.aim)
   block z r _ = tt
 

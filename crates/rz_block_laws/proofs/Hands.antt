@@ -22,7 +22,7 @@ use Rattle.rz_events.specs.declared.events.Event.{Event}
 use Rattle.rz_client_model.specs.declared.writing.WriterState.{WriterState}
 use Rattle.rz_client_model.specs.declared.writing.WriteStage.{WriteStage}
 use Rattle.rz_client_model.specs.declared.writing.WriteStage.TheVariants.{Beginning, Sending, Ended}
-use Rattle.rz_client_model.specs.declared.writing.Sent.{Sent}
+use Rattle.rz_client_model.specs.declared.writing.SentRecords.{SentRecords}
 use Rattle.rz_client_model.specs.Write.{ask_at, next_position, mask_of, writer_end}
 use Rattle.rz_client_model.specs.Read.{reader_ask, reader_end}
 use Rattle.rz_events.specs.declared.machines.WriterAsk.TheVariants as writes
@@ -81,7 +81,7 @@ module _ (v : Volume) (f : Facts) (n : ℕ) (question : NodeAsk) (bins : List �
 sent-few : (kept failed forward safe many : ℕ) → kept < forward → failed + forward ≤ safe → many ≡ safe → kept + failed < many
 sent-few kept failed forward safe many few spare is = omega arith
 
-module _ (law : IsWrittenLaw) (v : Volume) (f : Facts) (o run : List Event) (by : Actor) (text : List ℕ) (s : WriterState) (own : HasWriteEvents v f o by text s) (t : Sent) (sending : IsSending v f o by s.key s.places text t) where
+module _ (law : IsWrittenLaw) (v : Volume) (f : Facts) (o run : List Event) (by : Actor) (text : List ℕ) (s : WriterState) (own : HasWriteEvents v f o by text s) (t : SentRecords) (sending : IsSending v f o by s.key s.places text t) where
   abbrev position : ℕ
   position = next_position t
 

@@ -45,7 +45,7 @@ use Rattle.rz_client_model.specs.declared.reading.ReadStage.TheVariants.{Looking
 use Rattle.rz_client_model.specs.declared.reading.Fetches.{Fetches}
 use Rattle.rz_client_model.specs.declared.writing.WriterState.{WriterState}
 use Rattle.rz_client_model.specs.Write.{writer_end}
-use Rattle.rz_operation_model.specs.Ranges.{Aim, Taking, Giving, Range, is_whole, passed, cut, start_in, count_in}
+use Rattle.rz_operation_model.specs.Ranges.{Aim, Taking, Giving, RangeState, is_whole, passed, cut, start_in, count_in}
 use Rattle.rz_operation_model.specs.Files.{FileState, next_block, go_on, with_text, after_part, after_block}
 use Rattle.rz_operation_model.specs.Files as files
 use Rattle.rz_operation_model.specs.Work.{Work, PutBlock, GetBlock, Plan, OnBlock, OnRange, RangePlan, WriteBytes, ReadBytes, Course, Alone, Within, Calling, Dropping, Opening, Locking, Writing, Reading, Rebuilding, Ending, Over}
@@ -66,7 +66,7 @@ module _ (y : Layout) (f : Facts) (had : List Pair) where
 
   -- ---- ranges
 
-  next-holds : (z : Layout) (r : Range) (aim : Aim) → Holds (in_range (next_block z r aim))
+  next-holds : (z : Layout) (r : RangeState) (aim : Aim) → Holds (in_range (next_block z r aim))
   next-holds z r (Taking bytes) = λ ps block is. is
   next-holds z r (Giving bytes) = go (is_whole z r)
     where
@@ -74,23 +74,23 @@ module _ (y : Layout) (f : Facts) (had : List Pair) where
       go true = λ ps block is. tt
       go false = λ ps block is. is
 
-  go-on-holds : (z : Layout) (r : Range) → Holds (in_range (go_on z r))
+  go-on-holds : (z : Layout) (r : RangeState) → Holds (in_range (go_on z r))
   go-on-holds z r = go (r.done == r.size)
     where
       go : (b : Bool) → Holds (in_range (cond b (files.Ended r (file.Whole r.done)) (next_block z r r.aim)))
       go true = λ ps block is. tt
       go false = next-holds z r r.aim
 
-  text-holds : (z : Layout) (r : Range) (text : List ℕ) (aim : Aim) → Holds (in_range (with_text z r text aim))
+  text-holds : (z : Layout) (r : RangeState) (text : List ℕ) (aim : Aim) → Holds (in_range (with_text z r text aim))
   text-holds z r text (Taking bytes) = go-on-holds z (passed z r (Taking (bytes ++ cut (start_in z r) (count_in z r) text)))
   text-holds z r text (Giving bytes) = λ ps block is. tt
 
-  part-holds : (z : Layout) (r : Range) (text : List ℕ) (m : ReadMark) → Holds (in_range (after_part z r text m))
+  part-holds : (z : Layout) (r : RangeState) (text : List ℕ) (m : ReadMark) → Holds (in_range (after_part z r text m))
   part-holds z r text (mark.Found stamp size) = text-holds z r text r.aim
   part-holds z r text mark.Hole = text-holds z r [] r.aim
   part-holds z r text _ = λ ps block is. tt
 
-  block-holds : (z : Layout) (r : Range) (e : WriteEnd) → Holds (in_range (after_block z r e))
+  block-holds : (z : Layout) (r : RangeState) (e : WriteEnd) → Holds (in_range (after_block z r e))
   block-holds z r (write.Acked stamp mask) = go-on-holds z (passed z r r.aim)
   block-holds z r _ = λ ps block is. tt
 

@@ -16,7 +16,7 @@ use Rattle.rz_export_model.proofs.Forgets.{first_of_file, first-own, first-found
 use Rattle.rz_export_model.proofs.Tests.{eq_true}
 use Rattle.rz_export_model.specs.Firsts.{first_given, given_if}
 use Rattle.rz_export_model.specs.Export.{Block, Blocks, without_file}
-use Rattle.rz_blocks.specs.declared.blocks.Entry.{Entry}
+use Rattle.rz_blocks.specs.declared.blocks.BlockEntry.{BlockEntry}
 use Rattle.rz_blocks.specs.Shown.{shown, shown_entries}
 use Rattle.rz_blocks.specs.Marked.{kept_at}
 use Rattle.rz_blocks.proofs.Shows.{Kept, map_of, find-shown, some-shown, get-shown}
@@ -48,7 +48,7 @@ module _ (es : Kept) (fid : ℕ) where
       → (q : Key) → kept_at es q ≡ cond (q.fid == fid) None (kept_at old q)
   all-gone old h stay q = go (q.fid == fid) refl
     where
-      not-shown : (o : Option Entry) → option_map shown o ≡ None → o ≡ None
+      not-shown : (o : Option BlockEntry) → option_map shown o ≡ None → o ≡ None
       not-shown None h = refl
       not-shown (Some e) h = cc
 
@@ -61,6 +61,6 @@ pub without-kept : (es fs : Kept) (fid : ℕ) → ((q : Key) → kept_at fs q �
 without-kept es fs fid now = same_map keys_total exact_keys _ _ (λ q.
     get-shown fs q ∙ ap (option_map shown) (now q) ∙ turn (q.fid == fid) (kept_at es q) ∙ ap (λ o. cond (not (q.fid == fid)) o None) (sym (get-shown es q)) ∙ sym (get-without (map_of es) fid q))
   where
-    turn : (b : Bool) (o : Option Entry) → option_map shown (cond b None o) ≡ cond (not b) (option_map shown o) None
+    turn : (b : Bool) (o : Option BlockEntry) → option_map shown (cond b None o) ≡ cond (not b) (option_map shown o) None
     turn true o = refl
     turn false o = refl

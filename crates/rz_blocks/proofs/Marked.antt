@@ -7,7 +7,7 @@ use Rattle.rz_events.specs.Keys.{key_cmp, exact_keys}
 use Rattle.rz_events.specs.declared.keys.Key.{Key}
 use Rattle.rz_blocks.specs.declared.row.Row.{Row}
 use Rattle.rz_blocks.specs.Marks.{is_marked, has_room, is_same, is_beside}
-use Rattle.rz_blocks.specs.declared.blocks.Entry.{Entry}
+use Rattle.rz_blocks.specs.declared.blocks.BlockEntry.{BlockEntry}
 use Rattle.rz_blocks.specs.Marked.{kept_at, is_public, AreMarked}
 use Rattle.rz_blocks.proofs.Sorted.{tied}
 use Rattle.rz_blocks.proofs.Shows.{Kept}
@@ -27,7 +27,7 @@ or-true : (a b : Bool) → b ≡ true → (a || b) ≡ true
 or-true true b h = refl
 or-true false b h = h
 
-public-there : (o : Option Entry) → is_public o ≡ true → is_some o ≡ true
+public-there : (o : Option BlockEntry) → is_public o ≡ true → is_some o ≡ true
 public-there None h = cc
 public-there (Some e) h = refl
 
@@ -52,7 +52,7 @@ room-made marks new key room =
     (ap (λ b. b && (key.block / 64 == key.block / 64)) (same-eq key.fid key.fid refl) ∙ same-eq (key.block / 64) (key.block / 64) refl)
 
 -- a key is written or taken out
-module _ (es fs : Kept) (marks new : List Row) (key : Key) (o : Option Entry) (x : Bool) where
+module _ (es fs : Kept) (marks new : List Row) (key : Key) (o : Option BlockEntry) (x : Bool) where
   pub rewritten : AreMarked es marks → ((q : Key) → kept_at fs q ≡ cond (is_at (key_cmp key) q) o (kept_at es q))
       → ((l : ℕ) (q : Key) → is_marked new l q ≡ cond (is_same 0 key l q) x (is_marked marks l q)) → ((l : ℕ) (q : Key) → has_room new l q ≡ has_room marks l q)
       → x ≡ is_public o → (is_some o ≡ true → has_room marks 0 key ≡ true) → (is_some o ≡ true → key.block < 2 ^ 64) → AreMarked fs new
@@ -72,7 +72,7 @@ module _ (es fs : Kept) (marks new : List Row) (key : Key) (o : Option Entry) (x
       bound q false is h = m.small q h
 
 -- an entry is written over another that is published just where it is
-pub overwritten : (es fs : Kept) (marks : List Row) (key : Key) (e : Entry) → AreMarked es marks → ((q : Key) → kept_at fs q ≡ cond (is_at (key_cmp key) q) (Some e) (kept_at es q))
+pub overwritten : (es fs : Kept) (marks : List Row) (key : Key) (e : BlockEntry) → AreMarked es marks → ((q : Key) → kept_at fs q ≡ cond (is_at (key_cmp key) q) (Some e) (kept_at es q))
     → is_some (kept_at es key) ≡ true → is_public (kept_at es key) ≡ is_public (Some e) → AreMarked fs marks
 overwritten es fs marks key e m now there same = record {
   marked = λ q. m.marked q ∙ said q (is_at (key_cmp key) q) refl ∙ ap is_public (sym (now q));

@@ -15,7 +15,7 @@ use Rattle.rz_export_model.specs.Firsts.{first_given}
 use Rattle.rz_export_model.specs.Export.{Block, Blocks, is_after, published_of, next_of_file}
 use Rattle.rz_blocks.specs.declared.row.Row.{Row}
 use Rattle.rz_blocks.specs.Marks.{is_marked}
-use Rattle.rz_blocks.specs.declared.blocks.Entry.{Entry}
+use Rattle.rz_blocks.specs.declared.blocks.BlockEntry.{BlockEntry}
 use Rattle.rz_blocks.specs.Shown.{shown}
 use Rattle.rz_blocks.specs.Marked.{kept_at, is_public, AreMarked}
 use Rattle.rz_blocks.proofs.Keys.{lesser-file}
@@ -34,7 +34,7 @@ unpublished : (q : Key) (o : Option Published) → is_some o ≡ false → with_
 unpublished q None h = refl
 unpublished q (Some p) h = cc
 
-public-shown : (o : Option Entry) → is_public o ≡ is_some (option_and_then (λ (b : Block). b.published) (option_map shown o))
+public-shown : (o : Option BlockEntry) → is_public o ≡ is_some (option_and_then (λ (b : Block). b.published) (option_map shown o))
 public-shown None = refl
 public-shown (Some e) = refl
 

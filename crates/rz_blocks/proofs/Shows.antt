@@ -17,12 +17,12 @@ use Rattle.rz_events.specs.declared.keys.Key.{Key}
 use Rattle.rz_events.specs.declared.files.Published.{Published}
 use Rattle.rz_export_model.proofs.Tests.{both}
 use Rattle.rz_export_model.specs.Export.{Block, Blocks, begun, with_published, newer_of}
-use Rattle.rz_blocks.specs.declared.blocks.Entry.{Entry}
+use Rattle.rz_blocks.specs.declared.blocks.BlockEntry.{BlockEntry}
 use Rattle.rz_blocks.specs.Shown.{shown, shown_entries}
 use Rattle.rz_blocks.specs.Marked.{kept_at}
 
 abbrev pub Kept : Type 0
-Kept = List (Key × Entry)
+Kept = List (Key × BlockEntry)
 
 abbrev pub map_of : Kept → Blocks
 map_of es = maps.from_entries (shown_entries es)
@@ -37,7 +37,7 @@ find-shown (e ∷ es) q = elim (is_at (key_cmp q) e.0) as (λ b. cond b (Some (s
 pub get-shown : (es : Kept) (q : Key) → maps.get (map_of es) q ≡ option_map shown (kept_at es q)
 get-shown es q = get-from_entries keys_total (shown_entries es) q ∙ find-shown es q
 
-pub some-shown : (o : Option Entry) → is_some (option_map shown o) ≡ is_some o
+pub some-shown : (o : Option BlockEntry) → is_some (option_map shown o) ≡ is_some o
 some-shown None = refl
 some-shown (Some e) = refl
 
@@ -45,12 +45,12 @@ some-shown (Some e) = refl
 pub there-kept : (es : Kept) (m : Blocks) → map_of es ≡ m → (q : Key) → is_some (maps.get m q) ≡ true → is_some (kept_at es q) ≡ true
 there-kept es m view q h = sym (some-shown (kept_at es q)) ∙ ap is_some (sym (get-shown es q)) ∙ ap (λ x. is_some (maps.get x q)) view ∙ h
 
-map-cond : (b : Bool) (o p : Option Entry) → option_map shown (cond b o p) ≡ cond b (option_map shown o) (option_map shown p)
+map-cond : (b : Bool) (o p : Option BlockEntry) → option_map shown (cond b o p) ≡ cond b (option_map shown o) (option_map shown p)
 map-cond true o p = refl
 map-cond false o p = refl
 
 -- entries that differ at one key make maps that differ there
-pub one-set : (es fs : Kept) (k : Key) (v : Entry) → ((q : Key) → kept_at fs q ≡ cond (is_at (key_cmp k) q) (Some v) (kept_at es q)) → map_of fs ≡ maps.insert (map_of es) k (shown v)
+pub one-set : (es fs : Kept) (k : Key) (v : BlockEntry) → ((q : Key) → kept_at fs q ≡ cond (is_at (key_cmp k) q) (Some v) (kept_at es q)) → map_of fs ≡ maps.insert (map_of es) k (shown v)
 one-set es fs k v h = same_map keys_total exact_keys _ _ (λ q.
     get-shown fs q ∙ ap (option_map shown) (h q) ∙ map-cond (is_at (key_cmp k) q) (Some v) (kept_at es q)
     ∙ ap (λ b. cond b (Some (shown v)) (option_map shown (kept_at es q))) ((eq_by_cmp_equiv keys_total).symm k q)
@@ -76,7 +76,7 @@ entries-shown es h = same_entries key_cmp keys_total exact_keys (maps.entries (m
     (λ q. sym (get-entries (map_of es) q) ∙ get-from_entries keys_total (shown_entries es) q)
 
 -- an entry of the map that is written over
-module _ (es : Kept) (m : Blocks) (key : Key) (e : Entry) (view : map_of es ≡ m) (at : kept_at es key ≡ Some e) where
+module _ (es : Kept) (m : Blocks) (key : Key) (e : BlockEntry) (view : map_of es ≡ m) (at : kept_at es key ≡ Some e) where
   there : maps.get m key ≡ Some (shown e)
   there = sym (ap (λ x. maps.get x key) view) ∙ get-shown es key ∙ ap (option_map shown) at
 

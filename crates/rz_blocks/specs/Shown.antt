@@ -9,15 +9,15 @@ use Rattle.std.specs.FinMap as maps
 use Rattle.rz_events.specs.Keys.{key_cmp}
 use Rattle.rz_events.specs.declared.keys.Key.{Key}
 use Rattle.rz_events.specs.declared.files.Published.{Published}
-use Rattle.rz_blocks.specs.declared.blocks.Entry.{Entry}
+use Rattle.rz_blocks.specs.declared.blocks.BlockEntry.{BlockEntry}
 use Rattle.rz_export_model.specs.Firsts.{first_given}
 use Rattle.rz_export_model.specs.Export.{Block, Blocks, is_after}
 
 -- an entry, as the map has it
-abbrev pub shown : Entry → Block
+abbrev pub shown : BlockEntry → Block
 shown entry = record { latest = entry.latest; published = entry.published }
 
-abbrev pub shown_entries : List (Key × Entry) → List (Key × Block)
+abbrev pub shown_entries : List (Key × BlockEntry) → List (Key × Block)
 shown_entries entries = map (λ e. (e.0, shown e.1)) entries
 
 -- the map with one more entry

@@ -24,7 +24,7 @@ const PUBLISHED: u16 = 0;
 
 /// What is known of a block: the newest stamp begun, or 0, and what is published.
 #[derive(Clone, Copy, Drop)]
-pub struct Entry {
+pub struct BlockEntry {
     pub latest: u64,
     pub published: Option<Published>,
 }
@@ -32,7 +32,7 @@ pub struct Entry {
 /// The blocks of all files, in the order of their keys.
 #[derive(Drop)]
 pub struct Blocks {
-    entries: BTreeMap<Key, Entry>,
+    entries: BTreeMap<Key, BlockEntry>,
     // The published blocks are marked, and there is room for the mark of each entry.
     published: Marks,
 }
@@ -92,7 +92,7 @@ impl Blocks {
     {
         // Room that is made for an entry that finds no memory stays, and shows nowhere.
         self.published.make_room(PUBLISHED, key)?;
-        self.entries.insert(key, Entry { latest, published })?;
+        self.entries.insert(key, BlockEntry { latest, published })?;
         self.published.set(PUBLISHED, key, published.is_some());
         Ok(())
     }
@@ -201,7 +201,7 @@ impl Blocks {
     }
 
     // The entry of a key.
-    fn entry(&self, key: Key) -> Option<Entry>
+    fn entry(&self, key: Key) -> Option<BlockEntry>
         ensures { option_map shown result ≡ maps.get self.now key }
     {
         self.entries.get(&key).copied()
@@ -224,7 +224,7 @@ impl Blocks {
 }
 
 // The least key of a file.
-fn first_key(entries: &BTreeMap<Key, Entry>, fid: u128) -> Option<Key>
+fn first_key(entries: &BTreeMap<Key, BlockEntry>, fid: u128) -> Option<Key>
     ensures first { result ≡ first_given (λ e. given_if (e.0.fid == fid) e.0) entries.now.entries }
     ensures ordered { IsStrictlySortedBy key_cmp (keys_of entries.now.entries) }
 {
@@ -237,7 +237,7 @@ fn first_key(entries: &BTreeMap<Key, Entry>, fid: u128) -> Option<Key>
 }
 
 // Takes the entries of a file out.
-fn remove_file(entries: &mut BTreeMap<Key, Entry>, fid: u128)
+fn remove_file(entries: &mut BTreeMap<Key, BlockEntry>, fid: u128)
     ensures { (q : Key) → kept_at entries.new.entries q ≡ cond (q.fid == fid) None (kept_at entries.old.entries q) }
 {
     while let Some(key) = first_key(entries, fid) {

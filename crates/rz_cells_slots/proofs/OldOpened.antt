@@ -10,7 +10,7 @@ use Rattle.rz_record.specs.Record.{IsValid}
 use Rattle.rz_record.specs.Slot.{Rec}
 use Rattle.rz_record.proofs.Laws.{one_reading}
 use Rattle.rz_cells_slots.specs.declared.geometry.Geometry.{Geometry}
-use Rattle.rz_cells_slots.specs.declared.geometry.Version.TheVariants.{One}
+use Rattle.rz_cells_slots.specs.declared.geometry.DiskVersion.TheVariants.{One}
 use Rattle.rz_cells_slots.specs.Held.{Apart, Records, heads_of, in_cell}
 use Rattle.rz_cells_slots.specs.Shape.{slot_of}
 use Rattle.rz_cells_slots.specs.Stands.{IsFormatted, IsHeaderOf}

@@ -13,8 +13,8 @@ use Rattle.rz_record.specs.Fields.{number_at}
 use Rattle.rz_record.specs.Record.{IsValid}
 use Rattle.rz_record.proofs.Codec.{number_at-front, byte-front, head-front}
 use Rattle.rz_cells_slots.specs.declared.geometry.Geometry.{Geometry}
-use Rattle.rz_cells_slots.specs.declared.geometry.Version.{Version}
-use Rattle.rz_cells_slots.specs.declared.geometry.Version.TheVariants.{Two}
+use Rattle.rz_cells_slots.specs.declared.geometry.DiskVersion.{DiskVersion}
+use Rattle.rz_cells_slots.specs.declared.geometry.DiskVersion.TheVariants.{Two}
 use Rattle.rz_cells_slots.specs.Held.{in_cell}
 use Rattle.rz_cells_slots.specs.Shape.{picked, slot_at, slot_of, disk_bytes, gate_at}
 use Rattle.rz_cells_slots.specs.Stands.{IsHeaderOf, IsFormatted}
@@ -46,7 +46,7 @@ module _ (g : Geometry) (header text : List ℕ) (same : take 33 header ≡ take
   formatted is = formatted_there (omega (arith, is))
 
   -- the header of a text from the bytes that were read
-  pub header_of : (v : Version) (fence : ℕ) → Agrees v g header → fence ≡ number_at 16 8 header → IsHeaderOf v g fence text
+  pub header_of : (v : DiskVersion) (fence : ℕ) → Agrees v g header → fence ≡ number_at 16 8 header → IsHeaderOf v g fence text
   header_of v fence agrees is = record {
     magic_is = sym (values_same header text same Magic) ∙ agrees Magic;
     layout = sym (values_same header text same Layout) ∙ agrees Layout;
@@ -57,7 +57,7 @@ module _ (g : Geometry) (header text : List ℕ) (same : take 33 header ≡ take
     reserved = sym (values_same header text same Reserved) ∙ agrees Reserved;
   }
 
-  pub field_fault : (v : Version) → IsFormatted text → (e : OpenFault) → FieldFault v g header e → HeaderFault v g text e
+  pub field_fault : (v : DiskVersion) → IsFormatted text → (e : OpenFault) → FieldFault v g header e → HeaderFault v g text e
   field_fault v is_formatted (BadHeader field value) bad = (
     is_formatted,
     record {
@@ -74,7 +74,7 @@ module _ (g : Geometry) (header text : List ℕ) (same : take 33 header ≡ take
   field_fault v is_formatted (Twice first second) bad = absurd bad
 
 -- a header agrees with its geometry
-pub agrees_of : (v : Version) (g : Geometry) (fence : ℕ) (text : List ℕ) → IsHeaderOf v g fence text → Agrees v g text
+pub agrees_of : (v : DiskVersion) (g : Geometry) (fence : ℕ) (text : List ℕ) → IsHeaderOf v g fence text → Agrees v g text
 agrees_of v g fence text is Magic = is.magic_is
 agrees_of v g fence text is Layout = is.layout
 agrees_of v g fence text is Bsize = is.bsize

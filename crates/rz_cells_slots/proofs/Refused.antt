@@ -13,7 +13,7 @@ use Rattle.rz_record.specs.Record.{bins_of}
 use Rattle.rz_record.specs.Slot.{Rec, Reads}
 use Rattle.rz_record.proofs.Laws.{numbers_behind, record-of_head, one_head}
 use Rattle.rz_cells_slots.specs.declared.geometry.Geometry.{Geometry}
-use Rattle.rz_cells_slots.specs.declared.geometry.Version.TheVariants.{Two}
+use Rattle.rz_cells_slots.specs.declared.geometry.DiskVersion.TheVariants.{Two}
 use Rattle.rz_cells_slots.specs.Held.{Records, Together, Apart, Made, in_cell, heads_of, head_in, names}
 use Rattle.std.proofs.Props.{props}
 use Rattle.rz_cells_slots.specs.Shape.{IsGeometry, picked, disk_bytes, slot_of}

@@ -3,7 +3,7 @@ use Rattle.std.specs.Prelude.{◌≡◌, ◌⊎◌, ℕ, ◌+◌, ◌-◌, ◌*�
 use Rattle.rz_disk.specs.Images.{window}
 use Rattle.rz_record.specs.Slot.{Rec, Reads}
 use Rattle.rz_cells_slots.specs.declared.geometry.Geometry.{Geometry}
-use Rattle.rz_cells_slots.specs.declared.geometry.Version.TheVariants.{One}
+use Rattle.rz_cells_slots.specs.declared.geometry.DiskVersion.TheVariants.{One}
 use Rattle.rz_cells_slots.specs.Held.{Records, Made, count_held, in_cell}
 use Rattle.rz_cells_slots.specs.Shape.{slot_of, gate_at}
 use Rattle.rz_cells_slots.specs.Stands.{IsFormatted, IsHeaderOf, StandsFor, Suits}

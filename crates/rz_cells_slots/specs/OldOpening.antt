@@ -5,7 +5,7 @@ use Rattle.rz_events.specs.declared.nodes.OpenFault.{OpenFault}
 use Rattle.rz_events.specs.declared.nodes.OpenFault.TheVariants.{NoMemory, WrongSize, DiskFault, Unformatted, BadHeader, Damaged, Twice}
 use Rattle.rz_record.specs.Record.{IsValid}
 use Rattle.rz_cells_slots.specs.declared.geometry.Geometry.{Geometry}
-use Rattle.rz_cells_slots.specs.declared.geometry.Version.TheVariants.{One}
+use Rattle.rz_cells_slots.specs.declared.geometry.DiskVersion.TheVariants.{One}
 use Rattle.rz_cells_slots.specs.Held.{in_cell}
 use Rattle.rz_cells_slots.specs.Shape.{gate_at}
 use Rattle.rz_cells_slots.specs.Stands.{IsFormatted}

@@ -11,8 +11,8 @@ use Rattle.rz_events.specs.declared.nodes.OpenFault.TheVariants.{NoMemory, Wrong
 use Rattle.rz_record.specs.Fields.{number_at}
 use Rattle.rz_record.specs.Record.{IsEmpty, IsHead}
 use Rattle.rz_cells_slots.specs.declared.geometry.Geometry.{Geometry}
-use Rattle.rz_cells_slots.specs.declared.geometry.Version.{Version}
-use Rattle.rz_cells_slots.specs.declared.geometry.Version.TheVariants.{Two}
+use Rattle.rz_cells_slots.specs.declared.geometry.DiskVersion.{DiskVersion}
+use Rattle.rz_cells_slots.specs.declared.geometry.DiskVersion.TheVariants.{Two}
 use Rattle.rz_cells_slots.specs.Held.{in_cell}
 use Rattle.rz_cells_slots.specs.Shape.{disk_bytes, picked}
 use Rattle.rz_disk.specs.Images.{Within}
@@ -30,7 +30,7 @@ value_at text Cells = number_at 12 4 text
 value_at text Reserved = number_at 24 8 text
 
 -- what is to stand there
-abbrev pub wanted : Version → Geometry → HeaderField → ℕ
+abbrev pub wanted : DiskVersion → Geometry → HeaderField → ℕ
 wanted v g Magic = magic_of v
 wanted v g Layout = number_of g.layout
 wanted v g Bsize = g.bsize
@@ -48,11 +48,11 @@ place Cells = 4
 place Reserved = 5
 
 -- the header is the geometry's in a version, with any fence
-abbrev pub Agrees : Version → Geometry → List ℕ → Type 0
+abbrev pub Agrees : DiskVersion → Geometry → List ℕ → Type 0
 Agrees v g text = (field : HeaderField) → value_at text field ≡ wanted v g field
 
 -- the first field that differs, and what stands there
-pub record FirstDiffers (v : Version) (g : Geometry) (text : List ℕ) (field : HeaderField) (value : ℕ) : Type 0 where
+pub record FirstDiffers (v : DiskVersion) (g : Geometry) (text : List ℕ) (field : HeaderField) (value : ℕ) : Type 0 where
   pub found : value ≡ value_at text field
   pub differs : value ≢ wanted v g field
   pub before : (other : HeaderField) → place other < place field → value_at text other ≡ wanted v g other
@@ -158,12 +158,12 @@ CellsFault g text DiskFault = Unit {0}
 CellsFault g text _ = ⊥
 
 -- the first field of a header that differs
-abbrev pub FieldFault : Version → Geometry → List ℕ → OpenFault → Type 0
+abbrev pub FieldFault : DiskVersion → Geometry → List ℕ → OpenFault → Type 0
 FieldFault v g text (BadHeader field value) = FirstDiffers v g text field value
 FieldFault v g text _ = ⊥
 
 -- why a header was not read
-abbrev pub HeaderFault : Version → Geometry → List ℕ → OpenFault → Type 0
+abbrev pub HeaderFault : DiskVersion → Geometry → List ℕ → OpenFault → Type 0
 HeaderFault v g text (BadHeader field value) = IsFormatted text × FirstDiffers v g text field value
 HeaderFault v g text Unformatted = ¬ IsFormatted text
 HeaderFault v g text DiskFault = Unit {0}

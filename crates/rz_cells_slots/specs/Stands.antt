@@ -5,8 +5,8 @@ use Rattle.rz_events.specs.declared.records.Head.{Head}
 use Rattle.rz_record.specs.Fields.{number_at}
 use Rattle.rz_record.specs.Slot.{Rec, Reads}
 use Rattle.rz_cells_slots.specs.declared.geometry.Geometry.{Geometry}
-use Rattle.rz_cells_slots.specs.declared.geometry.Version.{Version}
-use Rattle.rz_cells_slots.specs.declared.geometry.Version.TheVariants.{One, Two}
+use Rattle.rz_cells_slots.specs.declared.geometry.DiskVersion.{DiskVersion}
+use Rattle.rz_cells_slots.specs.declared.geometry.DiskVersion.TheVariants.{One, Two}
 use Rattle.rz_cells_slots.specs.Held.{Records, Made, changed, in_cell}
 use Rattle.rz_cells_slots.specs.Shape.{disk_bytes, picked}
 
@@ -18,7 +18,7 @@ magic = number_at 0 8 (codes "MJROZO02")
 unfoldable pub old_magic : ℕ
 old_magic = number_at 0 8 (codes "MJROZO01")
 
-abbrev pub magic_of : Version → ℕ
+abbrev pub magic_of : DiskVersion → ℕ
 magic_of One = old_magic
 magic_of Two = magic
 
@@ -31,7 +31,7 @@ abbrev pub IsShut : List ℕ → Type 0
 IsShut text = slice_index text 32 % 2 ≡ 0
 
 -- the header of a geometry and a fence in a version, before its gate
-pub record IsHeaderOf (v : Version) (g : Geometry) (fence : ℕ) (text : List ℕ) : Type 0 where
+pub record IsHeaderOf (v : DiskVersion) (g : Geometry) (fence : ℕ) (text : List ℕ) : Type 0 where
   pub magic_is : number_at 0 8 text ≡ magic_of v
   pub layout : slice_index text 8 ≡ number_of g.layout
   pub bsize : slice_index text 9 ≡ g.bsize

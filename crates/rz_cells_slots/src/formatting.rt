@@ -6,7 +6,7 @@ ghost use Rattle.rz_cells_slots.specs.Shape.{IsGeometry, disk_bytes};
 ghost use Rattle.rz_cells_slots.specs.Stands.{IsFresh, ShutOrFresh, IsHeader};
 
 use crate::Geometry;
-use crate::geometry::Version;
+use crate::geometry::DiskVersion;
 use rz_disk::{Disk, DiskError, Failed, store};
 use rz_record::fields::{put_u16, put_u32, put_u64};
 use std::alloc::Global;
@@ -67,7 +67,7 @@ pub fn spell_header(geometry: &Geometry, fence: u64, out: &mut [u8])
     requires { length out.old ≡ 32 }
     ensures { IsHeader geometry.now fence out.new }
 {
-    put_u64(out, 0, Version::Two.magic());
+    put_u64(out, 0, DiskVersion::Two.magic());
     out[8] = geometry.layout.number();
     out[9] = geometry.bsize;
     put_u16(out, 10, geometry.node);

@@ -9,20 +9,20 @@ pub const HEADER_BYTES: u64 = 64;
 
 /// The forms of a disk: one cell where there is now a pair, and pairs.
 #[derive(Clone, Copy, Drop)]
-pub enum Version {
+pub enum DiskVersion {
     One,
     Two,
 }
 
-impl Version {
+impl DiskVersion {
     /// The text MJROZO01, or MJROZO02, as a number.
     #[tactic(auto, using(crate::proofs::Magic::magic_is, crate::proofs::Magic::old_magic_is))]
     pub fn magic(self) -> u64
         ensures { result ≡ magic_of self }
     {
         match self {
-            Version::One => 0x3130_4f5a_4f52_4a4d,
-            Version::Two => 0x3230_4f5a_4f52_4a4d,
+            DiskVersion::One => 0x3130_4f5a_4f52_4a4d,
+            DiskVersion::Two => 0x3230_4f5a_4f52_4a4d,
         }
     }
 }

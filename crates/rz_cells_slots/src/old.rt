@@ -4,7 +4,7 @@ ghost use Rattle.std.specs.HashMap.{IsEmpty, spare};
 ghost use Rattle.rz_events.specs.declared.records.Head.{Head};
 ghost use Rattle.rz_disk.specs.Meter.{Took, Rises, HasPasses, faults};
 ghost use Rattle.rz_record.specs.Record.{IsValid};
-ghost use Rattle.rz_cells_slots.specs.declared.geometry.Version.TheVariants.{One};
+ghost use Rattle.rz_cells_slots.specs.declared.geometry.DiskVersion.TheVariants.{One};
 ghost use Rattle.rz_cells_slots.specs.Held.{in_cell};
 ghost use Rattle.rz_cells_slots.specs.Shape.{IsGeometry, gate_at};
 ghost use Rattle.rz_cells_slots.specs.Stands.{IsHeaderOf, IsFormatted};
@@ -13,7 +13,7 @@ ghost use Rattle.rz_cells_slots.specs.Old.{old_disk_bytes, old_slot};
 ghost use Rattle.rz_cells_slots.specs.OldOpening.{OldCellsFault, OldFitTo, OldKnows, OldReadTo, OldRefuses, old_opening_calls};
 
 use crate::Geometry;
-use crate::geometry::{HEADER_BYTES, Version};
+use crate::geometry::{DiskVersion, HEADER_BYTES};
 use crate::judging::{Firsts, note_once};
 use crate::reading::{find, read_header};
 use rz_disk::Disk;
@@ -135,7 +135,7 @@ pub fn open_old<D: Disk>(
     let Ok(()) = disk.sync() else {
         return Err(OpenFault::DiskFault);
     };
-    let fence = read_header(disk, geometry, Version::One)?;
+    let fence = read_header(disk, geometry, DiskVersion::One)?;
     let Ok(()) = disk.read(HEADER_BYTES, &mut room.gates) else {
         return Err(OpenFault::DiskFault);
     };

@@ -8,7 +8,7 @@ ghost use Rattle.rz_cells_slots.specs.Open.{IsOpen};
 ghost use Rattle.rz_cells_slots.specs.Opening.{NotSize, OnlyRead, Refuses, opening_calls};
 
 use crate::Geometry;
-use crate::geometry::{HEADER_BYTES, Version};
+use crate::geometry::{DiskVersion, HEADER_BYTES};
 use crate::heads::Heads;
 use crate::judging::Firsts;
 use crate::reading::{read_header, read_heads};
@@ -98,7 +98,7 @@ fn read_all<D: Disk>(
     let Ok(()) = disk.sync() else {
         return Err(OpenFault::DiskFault);
     };
-    let fence = read_header(disk, geometry, Version::Two)?;
+    let fence = read_header(disk, geometry, DiskVersion::Two)?;
     let Ok(()) = disk.read(HEADER_BYTES, gates) else {
         return Err(OpenFault::DiskFault);
     };

@@ -11,7 +11,7 @@ ghost use Rattle.rz_cells_slots.specs.Open.{Knows};
 ghost use Rattle.rz_cells_slots.specs.Opening.{Agrees, CellFault, CellsFault, FieldFault, FitTo, HeaderFault, KnowsFirsts, NotSize, OnlyRead, ReadTo, ReadsHead};
 
 use crate::Geometry;
-use crate::geometry::Version;
+use crate::geometry::DiskVersion;
 use crate::heads::Heads;
 use crate::judging::{Firsts, admit};
 use rz_disk::Disk;
@@ -23,7 +23,7 @@ use rz_record::{HEAD_BYTES, RecordFault, head_of};
 pub fn read_header<D: Disk>(
     disk: &mut D,
     geometry: &Geometry,
-    version: Version,
+    version: DiskVersion,
 ) -> Result<u64, OpenFault>
     requires size { 64 ≤ length (D.text disk.old) }
     ensures ok { IfOk result (λ fence. IsTrue D.tells → IsHeaderOf version geometry.now fence (D.text disk.old) × IsFormatted (D.text disk.old)) }
@@ -46,7 +46,7 @@ pub fn read_header<D: Disk>(
 }
 
 /// Whether the fields of a header are the version's and the geometry's.
-fn check_fields(header: &[u8], geometry: &Geometry, version: Version) -> Result<(), OpenFault>
+fn check_fields(header: &[u8], geometry: &Geometry, version: DiskVersion) -> Result<(), OpenFault>
     requires { 32 ≤ length header.now }
     ensures ok { OnOk result (Agrees version geometry.now header.now) }
     ensures err { IfErr result (FieldFault version geometry.now header.now) }

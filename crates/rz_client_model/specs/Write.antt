@@ -18,7 +18,7 @@ use Rattle.rz_events.specs.declared.machines.WriterAnswer.TheVariants as told
 use Rattle.rz_client_model.specs.declared.writing.WriterState.{WriterState}
 use Rattle.rz_client_model.specs.declared.writing.WriteStage.{WriteStage}
 use Rattle.rz_client_model.specs.declared.writing.WriteStage.TheVariants.{Beginning, Sending, Ended}
-use Rattle.rz_client_model.specs.declared.writing.Sent.{Sent}
+use Rattle.rz_client_model.specs.declared.writing.SentRecords.{SentRecords}
 
 -- The outcomes of positions.
 
@@ -51,11 +51,11 @@ writer_start layout key places length =
     record { layout = layout; key = key; places = places; length = length; stage = Beginning }
 
 -- no record was sent yet
-abbrev pub none_sent : ℕ → ℕ → Sent
+abbrev pub none_sent : ℕ → ℕ → SentRecords
 none_sent stamp base = record { stamp = stamp; base = base; kept = 0; failed = 0; why = replicate 16 why.NotAsked }
 
 -- the position that comes next: each one before it has the record or has failed
-abbrev pub next_position : Sent → ℕ
+abbrev pub next_position : SentRecords → ℕ
 next_position t = t.kept + t.failed
 
 -- What it asks.
@@ -74,17 +74,17 @@ writer_ask s = ask_at s s.stage
 -- The state after an answer.
 
 -- too few positions are left where more have failed than there are spare ones
-abbrev pub unless_too_few : Layout → Sent → WriteStage
+abbrev pub unless_too_few : Layout → SentRecords → WriteStage
 unless_too_few layout t = cond (nat_lt (safe_of layout - forward_of layout) t.failed) (Ended (end.TooFew t.why)) (Sending t)
 
 -- what came of the next position
-abbrev pub after_keep : Layout → Sent → Why → WriteStage
+abbrev pub after_keep : Layout → SentRecords → Why → WriteStage
 after_keep layout t w = cond (is_kept w)
     (Sending (record t { kept = t.kept + 1; why = slice_set t.why (next_position t) w }))
     (unless_too_few layout (record t { failed = t.failed + 1; why = slice_set t.why (next_position t) w }))
 
 -- a position of the mask has failed after all
-abbrev pub after_enrolled : Layout → Sent → ℕ → WriteStage
+abbrev pub after_enrolled : Layout → SentRecords → ℕ → WriteStage
 after_enrolled layout t position =
     unless_too_few layout (record t { kept = t.kept - 1; failed = t.failed + 1; why = slice_set t.why position why.Enrolled })
 

@@ -11,4 +11,4 @@ mod reading;
 mod writing;
 
 pub use reading::{Fetches, ReadStage, ReaderState};
-pub use writing::{Sent, WriteStage, WriterState};
+pub use writing::{SentRecords, WriteStage, WriterState};

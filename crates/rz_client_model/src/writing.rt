@@ -21,13 +21,13 @@ pub enum WriteStage {
     /// It has no stamp yet.
     Beginning,
     /// It sends its records, or publishes them.
-    Sending(Sent),
+    Sending(SentRecords),
     Ended(WriteEnd),
 }
 
 /// The records of a write that were sent so far, to the positions in ascending order.
 #[derive(Clone, Copy, Debug, PartialEq, Eq, Drop)]
-pub struct Sent {
+pub struct SentRecords {
     pub stamp: u64,
     pub base: u64,
     /// So many positions have the record.

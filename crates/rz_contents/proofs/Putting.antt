@@ -29,7 +29,7 @@ use Rattle.rz_export_model.specs.ExportEvents.{export_event, begin_event, publis
 use Rattle.rz_client_model.specs.declared.writing.WriterState.{WriterState}
 use Rattle.rz_client_model.specs.declared.writing.WriteStage.{WriteStage}
 use Rattle.rz_client_model.specs.declared.writing.WriteStage.TheVariants as writing
-use Rattle.rz_client_model.specs.declared.writing.Sent.{Sent}
+use Rattle.rz_client_model.specs.declared.writing.SentRecords.{SentRecords}
 use Rattle.rz_client_model.specs.Write.{mask_of, why_of, is_kept, next_position, after_keep, unless_too_few}
 use Rattle.rz_operation_model.specs.Work.{Work, OnBlock, PutBlock, Alone, Opening, Writing, Ending, Over}
 use Rattle.rz_operation_model.specs.Ask.{ask_of, head_of, write_asks}
@@ -82,8 +82,8 @@ module _ (by : Actor) (outer layout : Layout) (key : Key) (places : List ℕ) (s
       (refl, refl, (refl, still))
   begin-step still (_) x is = cc
 
-  module _ (t : Sent) (still : IsStill xs) (begun : HasBegun xs by key t.stamp text) where
-    few : (ys : List Event) → IsStill (ys ++ xs) → (s : Sent) → s.stamp ≡ t.stamp → IsPutStage by (ys ++ xs) key text (unless_too_few layout s)
+  module _ (t : SentRecords) (still : IsStill xs) (begun : HasBegun xs by key t.stamp text) where
+    few : (ys : List Event) → IsStill (ys ++ xs) → (s : SentRecords) → s.stamp ≡ t.stamp → IsPutStage by (ys ++ xs) key text (unless_too_few layout s)
     few ys all s same = go (nat_lt (safe_of layout - forward_of layout) s.failed)
       where
         go : (b : Bool) → IsPutStage by (ys ++ xs) key text (cond b (writing.Ended (write.TooFew s.why)) (writing.Sending s))

@@ -26,7 +26,7 @@ use Rattle.rz_events.specs.declared.events.Event.TheVariants as e
 use Rattle.rz_node_model.specs.Versions.{Stands}
 use Rattle.rz_client_model.specs.declared.reading.ReaderState.{ReaderState}
 use Rattle.rz_client_model.specs.declared.writing.WriterState.{WriterState}
-use Rattle.rz_operation_model.specs.Ranges.{Aim, Taking, Giving, Range, start_in, count_in, is_whole, passed, cut}
+use Rattle.rz_operation_model.specs.Ranges.{Aim, Taking, Giving, RangeState, start_in, count_in, is_whole, passed, cut}
 use Rattle.rz_operation_model.specs.Files.{FileState, Reads, Writes, Ended as FileEnded, go_on, next_block, with_text, write_start, read_start, reads_block, writes_block}
 use Rattle.rz_operation_model.specs.Rebuild.{Rebuild, Going, Ended as RebuildEnded}
 use Rattle.rz_operation_model.specs.Work.{Work, PutBlock, GetBlock, RangePlan, WriteBytes, ReadBytes, Plan, OnBlock, OnRange, Course, Alone, Within, Calling, Dropping, Opening, Locking, Writing, Reading, Rebuilding, Ending, Over}
@@ -129,7 +129,7 @@ in-range run (FileEnded r (end.Whole done)) k = go r.aim k
 in-range run (FileEnded r (end.ShortWrite done cause)) k = tt
 in-range run (FileEnded r (end.ShortRead done m)) k = tt
 
-next-in : (layout : Layout) (run : List Event) (r : Range) (aim : Aim) → OfAim run r.aim → InFile run (next_block layout r aim)
+next-in : (layout : Layout) (run : List Event) (r : RangeState) (aim : Aim) → OfAim run r.aim → InFile run (next_block layout r aim)
 next-in layout run r (Taking bytes) k = k
 next-in layout run r (Giving bytes) k = go (is_whole layout r)
   where
@@ -137,14 +137,14 @@ next-in layout run r (Giving bytes) k = go (is_whole layout r)
     go true = k
     go false = k
 
-go-in : (layout : Layout) (run : List Event) (r : Range) → OfAim run r.aim → InFile run (go_on layout r)
+go-in : (layout : Layout) (run : List Event) (r : RangeState) → OfAim run r.aim → InFile run (go_on layout r)
 go-in layout run r k = go (r.done == r.size)
   where
     go : (b : Bool) → InFile run (cond b (FileEnded r (end.Whole r.done)) (next_block layout r r.aim))
     go true = k
     go false = next-in layout run r r.aim k
 
-text-in : (layout : Layout) (run : List Event) (r : Range) (text : List ℕ) (aim : Aim) → OfAim run aim → OfAim run r.aim → AreFound run text → InFile run (with_text layout r text aim)
+text-in : (layout : Layout) (run : List Event) (r : RangeState) (text : List ℕ) (aim : Aim) → OfAim run aim → OfAim run r.aim → AreFound run text → InFile run (with_text layout r text aim)
 text-in layout run r text (Taking bytes) k whole found =
     go-in layout run (passed layout r (Taking (bytes ++ cut (start_in layout r) (count_in layout r) text)))
     (all-join (λ b. (b ≡ 0) ⊎ IsFound run b) bytes (cut (start_in layout r) (count_in layout r) text) k

@@ -42,7 +42,7 @@ use Rattle.rz_client_model.specs.declared.reading.ReaderState.{ReaderState}
 use Rattle.rz_client_model.specs.declared.writing.WriterState.{WriterState}
 use Rattle.rz_client_model.specs.Read.{reader_ask, reader_end}
 use Rattle.rz_client_model.specs.Write.{writer_ask, writer_end}
-use Rattle.rz_operation_model.specs.Ranges.{Aim, Taking, Giving, Range, start_in, count_in, passed, cut}
+use Rattle.rz_operation_model.specs.Ranges.{Aim, Taking, Giving, RangeState, start_in, count_in, passed, cut}
 use Rattle.rz_operation_model.specs.Files.{Ended as FileEnded, go_on, next_block, with_text}
 use Rattle.rz_operation_model.specs.Rebuild.{Rebuild, Going, Ended as RebuildEnded, rebuild_ask}
 use Rattle.rz_operation_model.specs.Work.{Work, RangePlan, WriteBytes, ReadBytes, Course, Alone, Within, Calling, Dropping, Opening, Locking, Writing, Reading, Rebuilding, Ending, Over}
@@ -188,14 +188,14 @@ gave-last layout by number key part run (Within r) (write.Denied cause) = tt
 gave-last layout by number key part run (Within r) (write.Revoked later) = tt
 
 -- a range that is read comes to no other answer than the bytes, or how far it came
-taken-last : (layout : Layout) (run : List Event) (r : Range) (bytes : List ℕ) → r.aim ≡ Taking bytes → IsLast run (in_range (go_on layout r))
+taken-last : (layout : Layout) (run : List Event) (r : RangeState) (bytes : List ℕ) → r.aim ≡ Taking bytes → IsLast run (in_range (go_on layout r))
 taken-last layout run r bytes aim = go (r.done == r.size)
   where
     go : (b : Bool) → IsLast run (in_range (cond b (FileEnded r (end.Whole r.done)) (next_block layout r r.aim)))
     go true = subst (λ z. IsLast run (Ending (range_answer z (end.Whole r.done)))) (sym aim) tt
     go false = subst (λ z. IsLast run (in_range (next_block layout r z))) (sym aim) tt
 
-text-last : (layout : Layout) (run : List Event) (r : Range) (text : List ℕ) (aim : Aim) → IsLast run (in_range (with_text layout r text aim))
+text-last : (layout : Layout) (run : List Event) (r : RangeState) (text : List ℕ) (aim : Aim) → IsLast run (in_range (with_text layout r text aim))
 text-last layout run r text (Taking bytes) =
     taken-last layout run (passed layout r (Taking (bytes ++ cut (start_in layout r) (count_in layout r) text))) (bytes ++ cut (start_in layout r) (count_in layout r) text) refl
 text-last layout run r text (Giving bytes) = tt

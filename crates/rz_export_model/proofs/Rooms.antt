@@ -3,12 +3,12 @@ use Rattle.std.proofs.Common.{◌≡◌, ◌≤◌, ◌+◌, ℕ, zero, suc, Boo
 use Rattle.std.specs.List.{AllByRecursion}
 use Rattle.rz_events.specs.Volume.{Cluster}
 use Rattle.rz_events.specs.declared.files.NodeSpec.{NodeSpec}
-use Rattle.rz_export_model.specs.Place.{Room, Rooms, rooms_of, clusters_of, is_better, best_of, is_before, at_its_place, in_order}
+use Rattle.rz_export_model.specs.Place.{NodeRoom, Rooms, rooms_of, clusters_of, is_better, best_of, is_before, at_its_place, in_order}
 
-abbrev pub sids : List Room → List ℕ
+abbrev pub sids : List NodeRoom → List ℕ
 sids rooms = map (λ n. n.sid) rooms
 
-pub all-insert : (P : ℕ → Type 0) (n : Room) (ms : List Room) → P n.sid → AllByRecursion P (sids ms) → AllByRecursion P (sids (at_its_place n ms))
+pub all-insert : (P : ℕ → Type 0) (n : NodeRoom) (ms : List NodeRoom) → P n.sid → AllByRecursion P (sids ms) → AllByRecursion P (sids (at_its_place n ms))
 all-insert P n [] own all = (own, tt)
 all-insert P n (m ∷ ms) own all = go (is_before n m) (all-insert P n ms own all.1)
   where
@@ -16,16 +16,16 @@ all-insert P n (m ∷ ms) own all = go (is_before n m) (all-insert P n ms own al
     go true rest = (own, all)
     go false rest = (all.0, rest)
 
-pub all-order : (P : ℕ → Type 0) (ns : List Room) → AllByRecursion P (sids ns) → AllByRecursion P (sids (in_order ns))
+pub all-order : (P : ℕ → Type 0) (ns : List NodeRoom) → AllByRecursion P (sids ns) → AllByRecursion P (sids (in_order ns))
 all-order P [] all = tt
 all-order P (n ∷ ns) all = all-insert P n (in_order ns) all.0 (all-order P ns all.1)
 
-pub all-take : (P : ℕ → Type 0) (k : ℕ) (ns : List Room) → AllByRecursion P (sids ns) → AllByRecursion P (sids (take k ns))
+pub all-take : (P : ℕ → Type 0) (k : ℕ) (ns : List NodeRoom) → AllByRecursion P (sids ns) → AllByRecursion P (sids (take k ns))
 all-take P zero ns all = tt
 all-take P (suc k) [] all = tt
 all-take P (suc k) (n ∷ ns) all = (all.0, all-take P k ns all.1)
 
-pub long-insert : (n : Room) (ms : List Room) → length (at_its_place n ms) ≡ length ms + 1
+pub long-insert : (n : NodeRoom) (ms : List NodeRoom) → length (at_its_place n ms) ≡ length ms + 1
 long-insert n [] = omega arith
 long-insert n (m ∷ ms) = go (is_before n m) (long-insert n ms)
   where
@@ -33,11 +33,11 @@ long-insert n (m ∷ ms) = go (is_before n m) (long-insert n ms)
     go true rest = omega arith
     go false rest = omega (arith, rest)
 
-pub long-order : (ns : List Room) → length (in_order ns) ≡ length ns
+pub long-order : (ns : List NodeRoom) → length (in_order ns) ≡ length ns
 long-order [] = refl
 long-order (n ∷ ns) = let i = long-insert n (in_order ns) in let r = long-order ns in omega (arith, i, r)
 
-pub long-take : (k : ℕ) (ns : List Room) → k ≤ length ns → length (sids (take k ns)) ≡ k
+pub long-take : (k : ℕ) (ns : List NodeRoom) → k ≤ length ns → length (sids (take k ns)) ≡ k
 long-take zero ns few = refl
 long-take (suc k) [] few = absurd (omega (arith, few))
 long-take (suc k) (n ∷ ns) few = let r = long-take k ns (omega (arith, few)) in omega (arith, r)

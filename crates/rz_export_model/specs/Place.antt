@@ -5,14 +5,14 @@ use Rattle.rz_events.specs.declared.files.NodeSpec.{NodeSpec}
 use Rattle.rz_events.specs.Volume.{Volume, Cluster}
 
 -- a node with its free cells
-pub record Room : Type 0 where
+pub record NodeRoom : Type 0 where
   pub sid : ℕ
   pub free : ℕ
 
 -- a cluster with the free cells of its nodes
 pub record Rooms : Type 0 where
   pub cid : ℕ
-  pub nodes : List Room
+  pub nodes : List NodeRoom
 
 -- the cluster and the nodes that a new file gets
 pub record Placed : Type 0 where
@@ -20,7 +20,7 @@ pub record Placed : Type 0 where
   pub places : List ℕ
 
 -- the nodes with their free cells, one number per node
-abbrev pub rooms_of : List NodeSpec → List ℕ → List Room
+abbrev pub rooms_of : List NodeSpec → List ℕ → List NodeRoom
 rooms_of [] free = []
 rooms_of (n ∷ ns) [] = []
 rooms_of (n ∷ ns) (f ∷ free) = record { sid = n.sid; free = f } ∷ rooms_of ns free
@@ -44,16 +44,16 @@ best_of best [] = best
 best_of best (c ∷ cs) = best_of (cond (is_better c best) c best) cs
 
 -- whether a node stands before another: it has more free cells, or as many and a lesser number
-abbrev pub is_before : Room → Room → Bool
+abbrev pub is_before : NodeRoom → NodeRoom → Bool
 is_before a b = nat_lt b.free a.free || ((a.free == b.free) && nat_lt a.sid b.sid)
 
 -- a node at its place among nodes in order
-abbrev pub at_its_place : Room → List Room → List Room
+abbrev pub at_its_place : NodeRoom → List NodeRoom → List NodeRoom
 at_its_place n [] = n ∷ []
 at_its_place n (m ∷ ms) = cond (is_before n m) (n ∷ m ∷ ms) (m ∷ at_its_place n ms)
 
 -- the nodes in order: the most free cells first, and of as many the least number
-abbrev pub in_order : List Room → List Room
+abbrev pub in_order : List NodeRoom → List NodeRoom
 in_order [] = []
 in_order (n ∷ ns) = at_its_place n (in_order ns)
 

@@ -13,7 +13,7 @@ use Rattle.rz_client_model.specs.declared.writing.WriterState.{WriterState}
 use Rattle.rz_reader.specs.Machine.{Machine as ReaderMachine}
 use Rattle.rz_writer.specs.Machine.{block_of}
 use Rattle.rz_batch.specs.Batch.{Projections, batch_of, block_at}
-use Rattle.rz_operation_model.specs.Ranges.{Aim as AimOf, Taking, Giving, Range}
+use Rattle.rz_operation_model.specs.Ranges.{Aim as AimOf, Taking, Giving, RangeState}
 use Rattle.rz_operation_model.specs.Work.{RangePlan, WriteBytes, ReadBytes}
 use Rattle.rz_operation_model.specs.Files.{FileState, Reads, Writes, Ended}
 use Rattle.rz_file.specs.declared.span.Span.{Span}
@@ -31,7 +31,7 @@ abbrev pub aim_of : Aim → List ℕ → AimOf
 aim_of aim.Taking bytes = Taking bytes
 aim_of aim.Giving bytes = Giving bytes
 
-abbrev pub range_in : Span → Range
+abbrev pub range_in : Span → RangeState
 range_in s = range_of (aim_of s.aim s.bytes.items) s.range
 
 abbrev pub state_of : Span → ReaderState → WriterState → RangeStep → FileState

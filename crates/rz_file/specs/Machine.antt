@@ -28,7 +28,7 @@ use Rattle.rz_client_model.specs.Write.{IsWrite}
 use Rattle.rz_reader.specs.Fetched.{record_in}
 use Rattle.rz_reader.specs.Machine.{pairs_at, pairs_if, AreFitting, IsBlockOf, IsAskOf as IsReaderAskOf}
 use Rattle.rz_writer.specs.Machine.{block_of, IsAskOf as IsWriterAskOf, IsCountOf}
-use Rattle.rz_operation_model.specs.Ranges.{Aim, Taking, Giving, Range}
+use Rattle.rz_operation_model.specs.Ranges.{Aim, Taking, Giving, RangeState}
 use Rattle.rz_operation_model.specs.Work.{RangePlan, WriteBytes, ReadBytes}
 use Rattle.rz_operation_model.specs.Files.{FileState, Reads, Writes, Ended, read_start, write_start, file_ask, file_told}
 
@@ -42,7 +42,7 @@ pub record Machine : Type 0 where
 
 -- The range, and the text of its block.
 
-abbrev pub range_in : FileState → Range
+abbrev pub range_in : FileState → RangeState
 range_in (Reads r s) = r
 range_in (Writes r text s) = r
 range_in (Ended r end) = r

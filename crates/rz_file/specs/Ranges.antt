@@ -2,14 +2,14 @@
 use Rattle.std.specs.Prelude.{ℕ, ◌≤◌, ◌<◌, ◌+◌, ◌-◌, ◌%◌, ◌^◌, List, [], drop}
 use Rattle.mj_angles.specs.declared.layout.Layout.{Layout}
 use Rattle.mj_angles.specs.Layout.{block_bytes_of}
-use Rattle.rz_operation_model.specs.Ranges.{Aim, Taking, Range}
+use Rattle.rz_operation_model.specs.Ranges.{Aim, Taking, RangeState}
 use Rattle.rz_file.specs.declared.range.RangeProgress.{RangeProgress}
 
-abbrev pub range_of : Aim → RangeProgress → Range
+abbrev pub range_of : Aim → RangeProgress → RangeState
 range_of aim r = record { info = r.info; offset = r.offset; size = r.size; done = r.done; aim = aim }
 
 -- the range, whatever is done with it
-abbrev pub bare : RangeProgress → Range
+abbrev pub bare : RangeProgress → RangeState
 bare r = range_of (Taking []) r
 
 -- no more is done than there is, and the end has 64 bits

@@ -2,7 +2,7 @@
 use Rattle.std.proofs.Common.{◌≡◌, ℕ, zero, suc, ◌+◌, ◌<◌, ◌≤◌, true, false, List, [], ◌∷◌, ◌++◌, length, take, drop, get_or, Option, Some, None, is_some, sym, ap, ◌∙◌, refl, arith}
 use Rattle.std.specs.Option.{option_map}
 use Rattle.rz_index.specs.declared.index.Entry.{Entry}
-use Rattle.rz_index.specs.declared.nodes.Node.{Node}
+use Rattle.rz_index.specs.declared.nodes.IndexNode.{IndexNode}
 use Rattle.rz_index.specs.Standing.{Part, Tree, Holds, IsThere, entries_below}
 use Rattle.rz_index.specs.Spares.{IsIndex}
 use Rattle.rz_index.proofs.Row.{made}
@@ -32,21 +32,21 @@ taken-all (e ∷ es) (suc k) le = ap (λ (xs : List Entry). e ∷ xs) (taken-all
 -- ---- a row that was lent to a call
 
 -- what a call left of the items of a vector is all of it
-pub whole : (new old : List Node) (n : ℕ) → length new ≡ length old → n ≡ length old → take n (new ++ drop (length new) old) ≡ new
+pub whole : (new old : List IndexNode) (n : ℕ) → length new ≡ length old → n ≡ length old → take n (new ++ drop (length new) old) ≡ new
 whole [] [] zero same n_is = refl
 whole [] [] (suc n) same n_is = refl
 whole [] (y ∷ old) n same n_is = absurd (omega (arith, same))
 whole (x ∷ new) [] n same n_is = absurd (omega (arith, same))
 whole (x ∷ new) (y ∷ old) zero same n_is = absurd (omega (arith, n_is))
-whole (x ∷ new) (y ∷ old) (suc n) same n_is = ap (λ (xs : List Node). x ∷ xs) (whole new old n (omega (arith, same)) (omega (arith, n_is)))
+whole (x ∷ new) (y ∷ old) (suc n) same n_is = ap (λ (xs : List IndexNode). x ∷ xs) (whole new old n (omega (arith, same)) (omega (arith, n_is)))
 
 -- ---- what is shown
 
-pub shows : (row : List Node) (root spare free room : ℕ) (i : IsIndex row root spare free room) → entries_below (length row) row root ≡ i.entries
+pub shows : (row : List IndexNode) (root spare free room : ℕ) (i : IsIndex row root spare free room) → entries_below (length row) row root ≡ i.entries
 shows row root spare free room i = let within : length i.entries + length i.blanks < length row = i.within in shown row root i.entries (Tree spare i.blanks ∷ []) none (length row) i.holds (omega (arith, within))
 
 -- a map of a row that was lent to a call
-pub made-below : (row : List Node) (root : ℕ) (es : List Entry) (parts : List Part) → Holds row (Tree root es ∷ parts) → length es ≤ length row → made (entries_below (length row) row root) ≡ made es
+pub made-below : (row : List IndexNode) (root : ℕ) (es : List Entry) (parts : List Part) → Holds row (Tree root es ∷ parts) → length es ≤ length row → made (entries_below (length row) row root) ≡ made es
 made-below row root es parts h fits = ap made (shown row root es parts none (length row) h fits)
 
 -- ---- what is found of what was taken

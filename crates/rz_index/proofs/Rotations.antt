@@ -1,12 +1,12 @@
 -- Trees that are linked below nodes one after the other.
 use Rattle.std.proofs.Common.{◌≡◌, ℕ, ◌+◌, List, [], ◌∷◌, ◌++◌, Option, Some, None, sym, ap, subst, ◌∙◌, refl, append_assoc}
 use Rattle.rz_index.specs.declared.index.Entry.{Entry}
-use Rattle.rz_index.specs.declared.nodes.Node.{Node}
+use Rattle.rz_index.specs.declared.nodes.IndexNode.{IndexNode}
 use Rattle.rz_index.specs.Standing.{Part, Tree, Lone, times, HoldsBeside, Holds, Links, IsOpened, freed_part}
 use Rattle.rz_index.proofs.Standing.{swapped, emptied}
 
 -- a part comes before these
-pub pulled : (row : List Node) (front : List Part) (a : Part) (back : List Part) (taken : ℕ → ℕ) → HoldsBeside row (front ++ a ∷ back) taken → HoldsBeside row (a ∷ (front ++ back)) taken
+pub pulled : (row : List IndexNode) (front : List Part) (a : Part) (back : List Part) (taken : ℕ → ℕ) → HoldsBeside row (front ++ a ∷ back) taken → HoldsBeside row (a ∷ (front ++ back)) taken
 pulled row [] a back taken h = h
 pulled row (x ∷ front) a back taken h = swapped row x a (front ++ back) taken (h.0, h.1, pulled row front a back (λ p. times p h.0 + taken p) h.2)
 
@@ -14,10 +14,10 @@ abbrev pub none : ℕ → ℕ
 none p = 0
 
 -- the tree of this link comes apart so
-abbrev pub Opens : List Node → (link left right : ℕ) → Type 0
+abbrev pub Opens : List IndexNode → (link left right : ℕ) → Type 0
 Opens row link left right = (entries : List Entry) (parts : List Part) → Holds row (Tree link entries ∷ parts) → IsOpened row link entries parts left right
 
-pub rotated-right : (row one two : List Node) (left middle right outer inner high link : ℕ) → Opens row left outer inner → Links row one inner middle right high → Links one two outer left high link → Links row two left middle right link
+pub rotated-right : (row one two : List IndexNode) (left middle right outer inner high link : ℕ) → Opens row left outer inner → Links row one inner middle right high → Links one two outer left high link → Links row two left middle right link
 rotated-right row one two left middle right outer inner high link opens first second = λ l r e parts h.
     let o = opens l (Lone middle e ∷ Tree right r ∷ parts) h in
     let a = pulled row (Tree outer o.front ∷ Lone left o.middle ∷ Tree inner o.back ∷ Lone middle e ∷ []) (Tree right r) parts none o.holds in
@@ -29,7 +29,7 @@ rotated-right row one two left middle right outer inner high link opens first se
     let i = second o.front (o.back ++ e ∷ r) o.middle parts g in
     subst (λ (xs : List Entry). Holds two (Tree link xs ∷ parts)) (sym (ap (λ (xs : List Entry). xs ++ e ∷ r) o.all ∙ append_assoc o.front (o.middle ∷ o.back) (e ∷ r))) i
 
-pub rotated-left : (row one two : List Node) (left middle right inner outer low link : ℕ) → Opens row right inner outer → Links row one left middle inner low → Links one two low right outer link → Links row two left middle right link
+pub rotated-left : (row one two : List IndexNode) (left middle right inner outer low link : ℕ) → Opens row right inner outer → Links row one left middle inner low → Links one two low right outer link → Links row two left middle right link
 rotated-left row one two left middle right inner outer low link opens first second = λ l r e parts h.
     let a = pulled row (Tree left l ∷ Lone middle e ∷ []) (Tree right r) parts none h in
     let o = opens r (Tree left l ∷ Lone middle e ∷ parts) a in
@@ -40,7 +40,7 @@ rotated-left row one two left middle right inner outer low link opens first seco
     subst (λ (xs : List Entry). Holds two (Tree link xs ∷ parts)) (append_assoc l (e ∷ o.front) (o.middle ∷ o.back) ∙ ap (λ (xs : List Entry). l ++ e ∷ xs) (sym o.all)) f
 
 -- the same where the inner side comes apart too
-pub rotated-right-twice : (row one two three : List Node) (left middle right outer inner front back low high link : ℕ) → Opens row left outer inner → Opens row inner front back
+pub rotated-right-twice : (row one two three : List IndexNode) (left middle right outer inner front back low high link : ℕ) → Opens row left outer inner → Opens row inner front back
     → Links row one outer left front low → Links one two back middle right high → Links two three low inner high link → Links row three left middle right link
 rotated-right-twice row one two three left middle right outer inner front back low high link opens again first second third = λ l r e parts h.
     let o = opens l (Lone middle e ∷ Tree right r ∷ parts) h in
@@ -62,7 +62,7 @@ rotated-right-twice row one two three left middle right outer inner front back l
     (append_assoc o.front (o.middle ∷ n.front) (n.middle ∷ (n.back ++ e ∷ r)) ∙ ap (λ (xs : List Entry). o.front ++ o.middle ∷ xs) (sym (append_assoc n.front (n.middle ∷ n.back) (e ∷ r)) ∙ ap (λ (xs : List Entry). xs ++ e ∷ r) (sym n.all))
     ∙ sym (append_assoc o.front (o.middle ∷ o.back) (e ∷ r)) ∙ ap (λ (xs : List Entry). xs ++ e ∷ r) (sym o.all)) p
 
-pub rotated-left-twice : (row one two three : List Node) (left middle right inner outer front back low high link : ℕ) → Opens row right inner outer → Opens row inner front back
+pub rotated-left-twice : (row one two three : List IndexNode) (left middle right inner outer front back low high link : ℕ) → Opens row right inner outer → Opens row inner front back
     → Links row one left middle front low → Links one two back right outer high → Links two three low inner high link → Links row three left middle right link
 rotated-left-twice row one two three left middle right inner outer front back low high link opens again first second third = λ l r e parts h.
     let a = pulled row (Tree left l ∷ Lone middle e ∷ []) (Tree right r) parts none h in
@@ -89,26 +89,26 @@ nil-behind [] = refl
 nil-behind (e ∷ l) = ap (λ (xs : List Entry). e ∷ xs) (nil-behind l)
 
 -- a node by itself between trees of nothing
-pub alone : (row : List Node) (node : ℕ) (e : Entry) (parts : List Part) → Holds row (Lone node e ∷ parts) → Holds row (Tree 0 [] ∷ Lone node e ∷ Tree 0 [] ∷ parts)
+pub alone : (row : List IndexNode) (node : ℕ) (e : Entry) (parts : List Part) → Holds row (Lone node e ∷ parts) → Holds row (Tree 0 [] ∷ Lone node e ∷ Tree 0 [] ∷ parts)
 alone row node e parts h = emptied row (Lone node e ∷ Tree 0 [] ∷ parts) none (swapped row (Tree 0 []) (Lone node e) parts none (emptied row (Lone node e ∷ parts) none h))
 
 -- the tree behind comes first, and goes back
-pub back-first : (row : List Node) (a b c : Part) (parts : List Part) → Holds row (a ∷ b ∷ c ∷ parts) → Holds row (c ∷ a ∷ b ∷ parts)
+pub back-first : (row : List IndexNode) (a b c : Part) (parts : List Part) → Holds row (a ∷ b ∷ c ∷ parts) → Holds row (c ∷ a ∷ b ∷ parts)
 back-first row a b c parts h = pulled row (a ∷ b ∷ []) c parts none h
 
-pub back-again : (row : List Node) (a b c : Part) (parts : List Part) → Holds row (c ∷ a ∷ b ∷ parts) → Holds row (a ∷ b ∷ c ∷ parts)
+pub back-again : (row : List IndexNode) (a b c : Part) (parts : List Part) → Holds row (c ∷ a ∷ b ∷ parts) → Holds row (a ∷ b ∷ c ∷ parts)
 back-again row a b c parts h = pulled row (b ∷ c ∷ []) a parts none (pulled row (c ∷ a ∷ []) b parts none h)
 
 -- the fourth part comes second
-pub fourth-second : (row : List Node) (a b c d : Part) (parts : List Part) → Holds row (a ∷ b ∷ c ∷ d ∷ parts) → Holds row (a ∷ d ∷ b ∷ c ∷ parts)
+pub fourth-second : (row : List IndexNode) (a b c d : Part) (parts : List Part) → Holds row (a ∷ b ∷ c ∷ d ∷ parts) → Holds row (a ∷ d ∷ b ∷ c ∷ parts)
 fourth-second row a b c d parts h = swapped row d a (b ∷ c ∷ parts) none (pulled row (a ∷ b ∷ c ∷ []) d parts none h)
 
 -- the first part comes fourth
-pub first-fourth : (row : List Node) (a b c d : Part) (parts : List Part) → Holds row (a ∷ b ∷ c ∷ d ∷ parts) → Holds row (b ∷ c ∷ d ∷ a ∷ parts)
+pub first-fourth : (row : List IndexNode) (a b c d : Part) (parts : List Part) → Holds row (a ∷ b ∷ c ∷ d ∷ parts) → Holds row (b ∷ c ∷ d ∷ a ∷ parts)
 first-fourth row a b c d parts h = pulled row (c ∷ d ∷ a ∷ []) b parts none (pulled row (d ∷ a ∷ b ∷ []) c parts none (pulled row (a ∷ b ∷ c ∷ []) d parts none h))
 
 -- a node that was taken out of the first tree goes behind the two parts that follow
-pub freed-behind : (row : List Node) (a b c : Part) (parts : List Part) (o : Option Entry) (node : ℕ) → Holds row (a ∷ freed_part o node (b ∷ c ∷ parts)) → Holds row (a ∷ b ∷ c ∷ freed_part o node parts)
+pub freed-behind : (row : List IndexNode) (a b c : Part) (parts : List Part) (o : Option Entry) (node : ℕ) → Holds row (a ∷ freed_part o node (b ∷ c ∷ parts)) → Holds row (a ∷ b ∷ c ∷ freed_part o node parts)
 freed-behind row a b c parts None node h = h
 freed-behind row a b c parts (Some e) node h =
     pulled row (b ∷ c ∷ []) a (Lone node e ∷ parts) none (pulled row (c ∷ a ∷ Lone node e ∷ []) b parts none (pulled row (a ∷ Lone node e ∷ b ∷ []) c parts none h))

@@ -3,12 +3,12 @@ use Rattle.std.specs.Prelude.{ℕ, ◌≡◌, ◌+◌, ◌<◌, ◌≤◌, List,
 use Rattle.std.specs.Option.{option_map}
 use Rattle.rz_events.specs.declared.keys.Key.{Key}
 use Rattle.rz_index.specs.declared.index.Entry.{Entry}
-use Rattle.rz_index.specs.declared.nodes.Node.{Node}
+use Rattle.rz_index.specs.declared.nodes.IndexNode.{IndexNode}
 use Rattle.rz_index.specs.Indexed.{pairs_of, IsSorted}
 use Rattle.rz_index.specs.Standing.{Holds, Tree}
 
 -- So many nodes stand in a tree, and the row has one more.
-pub record IsSpare (row : List Node) (link entries : ℕ) : Type 0 where
+pub record IsSpare (row : List IndexNode) (link entries : ℕ) : Type 0 where
   pub blanks : List Entry
   pub count : length blanks ≡ entries
   pub holds : Holds row (Tree link blanks ∷ [])
@@ -16,7 +16,7 @@ pub record IsSpare (row : List Node) (link entries : ℕ) : Type 0 where
 
 -- The keys rise, there is a spare node for each free cell, and the row of free cells has room for all cells. No way down a
 -- tree is longer than the row.
-pub record IsIndex (row : List Node) (root spare free free_room : ℕ) : Type 0 where
+pub record IsIndex (row : List IndexNode) (root spare free free_room : ℕ) : Type 0 where
   pub entries : List Entry
   pub blanks : List Entry
   pub holds : Holds row (Tree root entries ∷ Tree spare blanks ∷ [])
@@ -26,7 +26,7 @@ pub record IsIndex (row : List Node) (root spare free free_room : ℕ) : Type 0 
   pub room_free : length entries + free ≤ free_room
 
 -- one entry more, and one spare node less
-pub record IsAdded (row : List Node) (root spare : ℕ) (entries : List (Key × Entry)) (blanks : ℕ) : Type 0 where
+pub record IsAdded (row : List IndexNode) (root spare : ℕ) (entries : List (Key × Entry)) (blanks : ℕ) : Type 0 where
   pub its : List Entry
   pub left : List Entry
   pub are : pairs_of its ≡ entries
@@ -34,7 +34,7 @@ pub record IsAdded (row : List Node) (root spare : ℕ) (entries : List (Key × 
   pub holds : Holds row (Tree root its ∷ Tree spare left ∷ [])
 
 -- these entries, and so many spare nodes less
-pub record IsPlanted (row : List Node) (root spare : ℕ) (entries : List Entry) (blanks : ℕ) : Type 0 where
+pub record IsPlanted (row : List IndexNode) (root spare : ℕ) (entries : List Entry) (blanks : ℕ) : Type 0 where
   pub left : List Entry
   pub count : length left + length entries ≡ blanks
   pub holds : Holds row (Tree root entries ∷ Tree spare left ∷ [])
@@ -44,7 +44,7 @@ number_of None = 0
 number_of (Some e) = 1
 
 -- the node of this entry, if any, was taken out, and is now a spare one; and its cell
-pub record IsRemoved (row : List Node) (root spare : ℕ) (cell : Option ℕ) (found : Option Entry) (entries : List (Key × Entry)) (blanks : ℕ) : Type 0 where
+pub record IsRemoved (row : List IndexNode) (root spare : ℕ) (cell : Option ℕ) (found : Option Entry) (entries : List (Key × Entry)) (blanks : ℕ) : Type 0 where
   pub its : List Entry
   pub left : List Entry
   pub are : pairs_of its ≡ entries

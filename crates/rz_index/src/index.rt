@@ -15,7 +15,7 @@ ghost use Rattle.rz_index.specs.Spares.{IsAdded, IsPlanted, IsRemoved};
 ghost use Rattle.rz_index.specs.Standing.{Holds, Tree};
 
 use crate::nodes;
-use crate::nodes::Node;
+use crate::nodes::IndexNode;
 use crate::spare::Spare;
 use rz_events::Key;
 use rz_versions::Versions;
@@ -36,7 +36,7 @@ pub struct Entry {
 #[derive(Drop)]
 pub struct Index {
     /// The nodes of the entries, and those that no entry needs. None stands at 0.
-    row: Vec<Node>,
+    row: Vec<IndexNode>,
     /// The tree of the entries.
     root: u32,
     /// The tree of the nodes that no entry needs.
@@ -162,7 +162,7 @@ impl Index {
 // The tree of entries without that of a key, where it is there, the tree of the spare nodes with its node, and
 // its cell.
 fn removed(
-    row: &mut [Node],
+    row: &mut [IndexNode],
     root: u32,
     spare: u32,
     key: Key,
@@ -183,7 +183,7 @@ fn removed(
 }
 
 // The tree of entries with one more, on a spare node, and the tree of the other spare nodes.
-fn added(row: &mut [Node], root: u32, spare: u32, entry: &Entry, room: usize) -> (u32, u32)
+fn added(row: &mut [IndexNode], root: u32, spare: u32, entry: &Entry, room: usize) -> (u32, u32)
     ensures { (entries blanks : List Entry) → Holds row.old (Tree root entries ∷ Tree spare blanks ∷ []) → IsSorted entries → length entries ≤ room → length blanks ≤ room
         → find key_cmp entry.now.key (pairs_of entries) ≡ None → 0 < length blanks → IsAdded row.new result.0 result.1 (put key_cmp entry.now.key entry.now (pairs_of entries)) (length blanks) }
 {
@@ -196,7 +196,13 @@ fn added(row: &mut [Node], root: u32, spare: u32, entry: &Entry, room: usize) ->
 }
 
 // The tree of entries with one behind them, on a spare node, and the tree of the other spare nodes.
-fn added_last(row: &mut [Node], root: u32, spare: u32, entry: &Entry, room: usize) -> (u32, u32)
+fn added_last(
+    row: &mut [IndexNode],
+    root: u32,
+    spare: u32,
+    entry: &Entry,
+    room: usize,
+) -> (u32, u32)
     ensures { (entries blanks : List Entry) → Holds row.old (Tree root entries ∷ Tree spare blanks ∷ []) → length entries ≤ room → length blanks ≤ room → 0 < length blanks
         → IsPlanted row.new result.0 result.1 (entries ++ entry.now ∷ []) (length entries + length blanks) }
 {
@@ -209,7 +215,7 @@ fn added_last(row: &mut [Node], root: u32, spare: u32, entry: &Entry, room: usiz
 }
 
 // Entries in a tree, in the order in which they come, on spare nodes, and the tree of the other spare nodes.
-fn planted(entries: &[Entry], row: &mut [Node], spare: u32, room: usize) -> (u32, u32)
+fn planted(entries: &[Entry], row: &mut [IndexNode], spare: u32, room: usize) -> (u32, u32)
     ensures { (blanks : List Entry) → Holds row.old (Tree spare blanks ∷ []) → length entries.now ≤ length blanks → length blanks ≤ room
         → IsPlanted row.new result.0 result.1 entries.now (length blanks) }
 {

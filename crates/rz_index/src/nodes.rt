@@ -19,7 +19,7 @@ use std::cmp::Ordering;
 /// An entry with the links to those before it and behind it, in 72 bytes. A link is a place in the row, and
 /// 0 leads nowhere: the node at that place is never used.
 #[derive(Drop)]
-pub struct Node {
+pub struct IndexNode {
     pub packed: Packed,
     pub left: u32,
     pub right: u32,
@@ -28,7 +28,7 @@ pub struct Node {
 // ---- reading
 
 // The height of a link's tree. Only time rests on it, so no clause tells it.
-fn height(row: &[Node], link: u32) -> u8 {
+fn height(row: &[IndexNode], link: u32) -> u8 {
     if link == 0 || link as usize >= row.len() {
         0
     } else {
@@ -37,7 +37,7 @@ fn height(row: &[Node], link: u32) -> u8 {
 }
 
 // The links of a node, where there is one.
-fn sides(row: &[Node], link: u32) -> Option<(u32, u32)>
+fn sides(row: &[IndexNode], link: u32) -> Option<(u32, u32)>
     ensures { (entries : List Entry) (parts : List Part) → Holds row.now (Tree link entries ∷ parts) → MatchOption result (entries ≡ []) (λ s. IsOpened row.now link entries parts s.0 s.1) }
 {
     if link == 0 || link as usize >= row.len() {
@@ -48,7 +48,7 @@ fn sides(row: &[Node], link: u32) -> Option<(u32, u32)>
 }
 
 // The same of a tree of at most so many entries.
-fn sides_within(row: &[Node], link: u32, room: usize) -> Option<(u32, u32)>
+fn sides_within(row: &[IndexNode], link: u32, room: usize) -> Option<(u32, u32)>
     ensures sides { (entries : List Entry) (parts : List Part) → Holds row.now (Tree link entries ∷ parts) → length entries ≤ room → MatchOption result (entries ≡ []) (λ s. IsOpened row.now link entries parts s.0 s.1) }
     ensures room { IsSome result → 0 < room }
 {
@@ -56,7 +56,7 @@ fn sides_within(row: &[Node], link: u32, room: usize) -> Option<(u32, u32)>
 }
 
 /// The entry of a node.
-pub fn entry_at(row: &[Node], place: u32) -> Option<Entry>
+pub fn entry_at(row: &[IndexNode], place: u32) -> Option<Entry>
     ensures { (e : Entry) (parts : List Part) → Holds row.now (Lone place e ∷ parts) → result ≡ Some e }
 {
     if (place as usize) < row.len() {
@@ -67,7 +67,7 @@ pub fn entry_at(row: &[Node], place: u32) -> Option<Entry>
 }
 
 // How a key stands to that of a node.
-fn compare(row: &[Node], place: u32, key: Key) -> Ordering
+fn compare(row: &[IndexNode], place: u32, key: Key) -> Ordering
     ensures { (e : Entry) (parts : List Part) → Holds row.now (Lone place e ∷ parts) → result ≡ key_cmp key e.key }
 {
     if (place as usize) < row.len() {
@@ -78,7 +78,7 @@ fn compare(row: &[Node], place: u32, key: Key) -> Ordering
 }
 
 /// The entry of a key, in a tree of at most so many entries.
-pub fn find(row: &[Node], link: u32, key: Key, room: usize) -> Option<Entry>
+pub fn find(row: &[IndexNode], link: u32, key: Key, room: usize) -> Option<Entry>
     ensures { (entries : List Entry) (parts : List Part) → Holds row.now (Tree link entries ∷ parts) → IsSorted entries → length entries ≤ room → result ≡ find key_cmp key (pairs_of entries) }
 {
     let (left, right) = sides_within(row, link, room)?;
@@ -90,7 +90,7 @@ pub fn find(row: &[Node], link: u32, key: Key, room: usize) -> Option<Entry>
 }
 
 /// The first entry of a file, in a tree of at most so many entries.
-pub fn first_of(row: &[Node], link: u32, fid: u128, room: usize) -> Option<Entry>
+pub fn first_of(row: &[IndexNode], link: u32, fid: u128, room: usize) -> Option<Entry>
     ensures { (entries : List Entry) (parts : List Part) → Holds row.now (Tree link entries ∷ parts) → IsSorted entries → length entries ≤ room → result ≡ first_among fid entries }
 {
     let (left, right) = sides_within(row, link, room)?;
@@ -109,7 +109,7 @@ pub fn first_of(row: &[Node], link: u32, fid: u128, room: usize) -> Option<Entry
 // ---- writing
 
 // Links two trees below a node, which is then of this height.
-fn link(row: &mut [Node], left: u32, middle: u32, right: u32, height: u8) -> u32
+fn link(row: &mut [IndexNode], left: u32, middle: u32, right: u32, height: u8) -> u32
     ensures { Links row.old row.new left middle right result }
 {
     if (middle as usize) < row.len() {
@@ -122,7 +122,7 @@ fn link(row: &mut [Node], left: u32, middle: u32, right: u32, height: u8) -> u32
 }
 
 /// Writes the entry of a node.
-pub fn set_entry(row: &mut [Node], place: u32, entry: &Entry)
+pub fn set_entry(row: &mut [IndexNode], place: u32, entry: &Entry)
     ensures { (e : Entry) (parts : List Part) → Holds row.old (Lone place e ∷ parts) → Holds row.new (Lone place entry.now ∷ parts) }
 {
     if (place as usize) < row.len() {
@@ -132,7 +132,7 @@ pub fn set_entry(row: &mut [Node], place: u32, entry: &Entry)
 }
 
 /// Links two trees below a node.
-pub fn linked(row: &mut [Node], left: u32, middle: u32, right: u32) -> u32
+pub fn linked(row: &mut [IndexNode], left: u32, middle: u32, right: u32) -> u32
     ensures { Links row.old row.new left middle right result }
 {
     let higher = height(row, left).max(height(row, right));
@@ -140,7 +140,7 @@ pub fn linked(row: &mut [Node], left: u32, middle: u32, right: u32) -> u32
 }
 
 // The same where a side may have changed its height by one.
-fn settled(row: &mut [Node], left: u32, middle: u32, right: u32, changed: bool) -> u32
+fn settled(row: &mut [IndexNode], left: u32, middle: u32, right: u32, changed: bool) -> u32
     ensures { Links row.old row.new left middle right result }
 {
     if changed {
@@ -152,7 +152,7 @@ fn settled(row: &mut [Node], left: u32, middle: u32, right: u32, changed: bool) 
 }
 
 // The same where one side may be two levels higher than the other.
-fn balanced(row: &mut [Node], left: u32, middle: u32, right: u32) -> u32
+fn balanced(row: &mut [IndexNode], left: u32, middle: u32, right: u32) -> u32
     ensures { Links row.old row.new left middle right result }
 {
     if is_higher(row, left, right) {
@@ -165,12 +165,12 @@ fn balanced(row: &mut [Node], left: u32, middle: u32, right: u32) -> u32
 }
 
 // Whether a side is so much higher than the other that the node above them may not stand so.
-fn is_higher(row: &[Node], side: u32, other: u32) -> bool {
+fn is_higher(row: &[IndexNode], side: u32, other: u32) -> bool {
     height(row, side) > height(row, other).saturating_add(1)
 }
 
 // The same where the left side is two levels higher.
-fn rotated_right(row: &mut [Node], left: u32, middle: u32, right: u32) -> u32
+fn rotated_right(row: &mut [IndexNode], left: u32, middle: u32, right: u32) -> u32
     ensures { Links row.old row.new left middle right result }
 {
     let Some((outer, inner)) = sides(row, left) else {
@@ -188,7 +188,7 @@ fn rotated_right(row: &mut [Node], left: u32, middle: u32, right: u32) -> u32
 }
 
 // The same where the right side is two levels higher.
-fn rotated_left(row: &mut [Node], left: u32, middle: u32, right: u32) -> u32
+fn rotated_left(row: &mut [IndexNode], left: u32, middle: u32, right: u32) -> u32
     ensures { Links row.old row.new left middle right result }
 {
     let Some((inner, outer)) = sides(row, right) else {
@@ -206,7 +206,7 @@ fn rotated_left(row: &mut [Node], left: u32, middle: u32, right: u32) -> u32
 }
 
 /// The node of the first entry of a tree of at most so many, and the tree of the others.
-pub fn split_first(row: &mut [Node], link: u32, room: usize) -> Option<(u32, u32)>
+pub fn split_first(row: &mut [IndexNode], link: u32, room: usize) -> Option<(u32, u32)>
     ensures { (entries : List Entry) (parts : List Part) → Holds row.old (Tree link entries ∷ parts) → length entries ≤ room
         → MatchOption result ((entries ≡ []) × Holds row.new parts) (λ s. IsSplit row.new entries parts s.0 s.1) }
 {
@@ -218,7 +218,7 @@ pub fn split_first(row: &mut [Node], link: u32, room: usize) -> Option<(u32, u32
 }
 
 /// One tree behind the other, which is of at most so many entries, where neither is two levels higher.
-pub fn merged(row: &mut [Node], front: u32, back: u32, room: usize) -> u32
+pub fn merged(row: &mut [IndexNode], front: u32, back: u32, room: usize) -> u32
     ensures { (l r : List Entry) (parts : List Part) → Holds row.old (Tree front l ∷ Tree back r ∷ parts) → length r ≤ room → Holds row.new (Tree result (l ++ r) ∷ parts) }
 {
     match split_first(row, back, room) {
@@ -228,7 +228,7 @@ pub fn merged(row: &mut [Node], front: u32, back: u32, room: usize) -> u32
 }
 
 /// The entries of a tree of at most so many, with that of a node behind them.
-pub fn with_last(row: &mut [Node], link: u32, node: u32, room: usize) -> u32
+pub fn with_last(row: &mut [IndexNode], link: u32, node: u32, room: usize) -> u32
     ensures { (entries : List Entry) (e : Entry) (parts : List Part) → Holds row.old (Tree link entries ∷ Lone node e ∷ parts) → length entries ≤ room → Holds row.new (Tree result (entries ++ e ∷ []) ∷ parts) }
 {
     let Some((left, right)) = sides_within(row, link, room) else {
@@ -239,7 +239,7 @@ pub fn with_last(row: &mut [Node], link: u32, node: u32, room: usize) -> u32
 }
 
 /// The entries of a tree of at most so many, with that of a node, whose key is none of theirs.
-pub fn insert(row: &mut [Node], link: u32, node: u32, key: Key, room: usize) -> u32
+pub fn insert(row: &mut [IndexNode], link: u32, node: u32, key: Key, room: usize) -> u32
     ensures { (entries : List Entry) (e : Entry) (parts : List Part) → Holds row.old (Tree link entries ∷ Lone node e ∷ parts) → e.key ≡ key → IsSorted entries → length entries ≤ room
         → find key_cmp e.key (pairs_of entries) ≡ None → IsTreeOf row.new result (put key_cmp e.key e (pairs_of entries)) parts }
 {
@@ -264,7 +264,7 @@ pub fn insert(row: &mut [Node], link: u32, node: u32, key: Key, room: usize) -> 
 }
 
 /// The entries of a tree of at most so many, with this one in the place of that of its key.
-pub fn replace(row: &mut [Node], link: u32, entry: &Entry, room: usize) -> u32
+pub fn replace(row: &mut [IndexNode], link: u32, entry: &Entry, room: usize) -> u32
     ensures { (entries : List Entry) (parts : List Part) → Holds row.old (Tree link entries ∷ parts) → IsSorted entries → length entries ≤ room
         → find key_cmp entry.now.key (pairs_of entries) ≢ None → IsTreeOf row.new result (put key_cmp entry.now.key entry.now (pairs_of entries)) parts }
 {
@@ -288,7 +288,7 @@ pub fn replace(row: &mut [Node], link: u32, entry: &Entry, room: usize) -> u32
 }
 
 /// The entries of a tree of at most so many without that of a key, and its node, or 0 where there is none.
-pub fn take(row: &mut [Node], link: u32, key: Key, room: usize) -> (u32, u32)
+pub fn take(row: &mut [IndexNode], link: u32, key: Key, room: usize) -> (u32, u32)
     ensures node { (entries : List Entry) (parts : List Part) → Holds row.old (Tree link entries ∷ parts) → IsSorted entries → length entries ≤ room → IsThere (find key_cmp key (pairs_of entries)) result.1 }
     ensures entries { (entries : List Entry) (parts : List Part) → Holds row.old (Tree link entries ∷ parts) → IsSorted entries → length entries ≤ room
         → IsTreeOf row.new result.0 (where_key key_cmp (λ k. not (eq_by_cmp key_cmp key k)) (pairs_of entries)) (freed_part (find key_cmp key (pairs_of entries)) result.1 parts) }

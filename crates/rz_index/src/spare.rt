@@ -1,11 +1,11 @@
 //! Memory for entries to come.
 
 ghost use Rattle.std.specs.Prelude.{ℕ, ◌≡◌, ◌+◌, IfOk};
-ghost use Rattle.rz_index.specs.declared.nodes.Node.{Node};
+ghost use Rattle.rz_index.specs.declared.nodes.IndexNode.{IndexNode};
 ghost use Rattle.rz_index.specs.Standing.{Holds, Tree};
 
 use crate::index::Entry;
-use crate::nodes::Node;
+use crate::nodes::IndexNode;
 use crate::packed::Packed;
 use rz_events::Key;
 use rz_versions::Versions;
@@ -16,7 +16,7 @@ use std::marker::Model;
 #[derive(Drop)]
 pub struct Spare {
     /// Nodes that no entry needs, in a tree. None stands at 0.
-    pub(crate) row: Vec<Node>,
+    pub(crate) row: Vec<IndexNode>,
     pub(crate) link: u32,
     entries: u32,
 }
@@ -51,7 +51,7 @@ impl Spare {
 }
 
 // A node of no entry before the node of a link.
-fn node(link: u32) -> Node
+fn node(link: u32) -> IndexNode
     ensures left { result.left ≡ 0 }
     ensures right { result.right ≡ link }
 {
@@ -60,7 +60,7 @@ fn node(link: u32) -> Node
         cell: 0,
         versions: Versions::none(),
     };
-    Node {
+    IndexNode {
         packed: Packed::new(&entry, 0),
         left: 0,
         right: link,

@@ -7,8 +7,8 @@ use Rattle.rz_events.specs.declared.export.Call.{Call}
 use Rattle.rz_export_model.specs.Export.{Export, new_export, export_after}
 use Rattle.rz_tree.specs.declared.parts.Part.{Part}
 use Rattle.rz_export.specs.Building.{MayFollow, AllFollow}
-use Rattle.rz_journal_text.specs.declared.entry.Entry.{Entry as Said}
-use Rattle.rz_journal_text.specs.declared.entry.Entry.TheVariants as entry
+use Rattle.rz_journal_text.specs.declared.entry.JournalEntry.{JournalEntry as Said}
+use Rattle.rz_journal_text.specs.declared.entry.JournalEntry.TheVariants as entry
 use Rattle.rz_journal_text.specs.Spelling.{Spells}
 use Rattle.rz_journal_text.proofs.EntryLaws.{one_entry}
 use Rattle.rz_journal.specs.Row.{Entries, taken, IsEntryAt, Row, EndsAt}

@@ -8,7 +8,7 @@ use Rattle.rz_events.specs.declared.export.Reply.TheVariants.{NoMemory}
 use Rattle.rz_export_model.specs.Export.{Export, new_export, is_proper, export_reply, export_after}
 use Rattle.rz_export.specs.Calls.{IsAnswered, MayWant}
 use Rattle.rz_export_laws.specs.Whole.{IsWhole}
-use Rattle.rz_journal_text.specs.declared.entry.Entry.{Entry}
+use Rattle.rz_journal_text.specs.declared.entry.JournalEntry.{JournalEntry}
 use Rattle.rz_journal_text.specs.Spelling.{entry_bytes}
 use Rattle.rz_journal.specs.Row.{taken}
 use Rattle.rz_journal.specs.Stands.{StandsFor, IsJournal, IsSameHalf, IsShut, IsHalfOpen, Either, Becomes, with_last, instead}
@@ -24,7 +24,7 @@ use Rattle.rz_journal.proofs.Makings.{after_more, accepted_more, makes_more, mak
 use Rattle.rz_journal.proofs.Refused.{unaccepted_same, unkept_same, volume_same}
 
 -- how long a row is
-pub row_long : (entries : List Entry) (row : List ℕ) → IsRow entries row → length row ≡ taken (bytes_of entries) + 1
+pub row_long : (entries : List JournalEntry) (row : List ℕ) → IsRow entries row → length row ≡ taken (bytes_of entries) + 1
 row_long entries row is = ap length is.1 ∙ length-row_bytes (bytes_of entries)
 
 -- the one image keeps the export
@@ -36,11 +36,11 @@ kept_there : (volume : Volume) (text new : List ℕ) (s : Export) (keeps : Keeps
 kept_there volume text new s keeps stands = record { bytes = keeps.bytes; entries = keeps.entries; stands = stands; spelled = keeps.spelled; makes = keeps.makes }
 
 -- other entries that make the export
-kept_instead : (volume : Volume) (entries : List Entry) (row new : List ℕ) (s : Export) → IsRow entries row → Makes volume entries s → StandsFor new (bytes_of entries) → Keeps volume new s
+kept_instead : (volume : Volume) (entries : List JournalEntry) (row new : List ℕ) (s : Export) → IsRow entries row → Makes volume entries s → StandsFor new (bytes_of entries) → Keeps volume new s
 kept_instead volume entries row new s is makes stands = record { bytes = bytes_of entries; entries = entries; stands = stands; spelled = is.0; makes = makes }
 
 -- the same entries with one more
-kept_more : (volume : Volume) (text new row : List ℕ) (s : Export) (c : Call) (e : Entry) (keeps : Keeps volume text s) → IsRow (e ∷ []) row → IsAccepted s c → entry_of c ≡ Some e → StandsFor new (with_last (entry_bytes e) keeps.bytes) → Keeps volume new (export_after s c)
+kept_more : (volume : Volume) (text new row : List ℕ) (s : Export) (c : Call) (e : JournalEntry) (keeps : Keeps volume text s) → IsRow (e ∷ []) row → IsAccepted s c → entry_of c ≡ Some e → StandsFor new (with_last (entry_bytes e) keeps.bytes) → Keeps volume new (export_after s c)
 kept_more volume text new row s c e keeps is accepted at stands = record {
   bytes = keeps.bytes ++ entry_bytes e ∷ [];
   entries = keeps.entries ++ e ∷ [];
@@ -67,7 +67,7 @@ module _ (tells : Bool) (text : List ℕ) (image : List ℕ → Type 0) (half us
 
 -- ---- one entry more
 
-module _ (tells : Bool) (text : List ℕ) (image : List ℕ → Type 0) (half used : ℕ) (s : Export) (ready : IsJournalReady tells text image half used s) (row : List ℕ) (c : Call) (e : Entry) (at : entry_of c ≡ Some e) (is : IsRow (e ∷ []) row) (accepted : IsAccepted s c) (told : IsTrue tells) where
+module _ (tells : Bool) (text : List ℕ) (image : List ℕ → Type 0) (half used : ℕ) (s : Export) (ready : IsJournalReady tells text image half used s) (row : List ℕ) (c : Call) (e : JournalEntry) (at : entry_of c ≡ Some e) (is : IsRow (e ∷ []) row) (accepted : IsAccepted s c) (told : IsTrue tells) where
   pub added_images : (left : List ℕ → Type 0) → Either (with_last (entry_bytes e)) text left → AllKeepEither left s c
   added_images left either d there =
       let keeps = ready.keeps told in
@@ -97,7 +97,7 @@ answered_not s u c r answered bad = ⊎_elim
     (λ (want : MayWant s c × (r ≡ NoMemory) × (u ≡ s)). want.2)
     answered
 
-pub accepted_of : (s : Export) (c : Call) (e : Entry) → entry_of c ≡ Some e → is_proper s c ≡ true → accepts (export_reply s c) ≡ true → IsAccepted s c
+pub accepted_of : (s : Export) (c : Call) (e : JournalEntry) → entry_of c ≡ Some e → is_proper s c ≡ true → accepts (export_reply s c) ≡ true → IsAccepted s c
 accepted_of s c e at proper good = record { kept = ap is_some at; proper = proper; accepted = good }
 
 pub answered_volume : (s u : Export) (c : Call) (r : Reply) → IsAnswered s c r u → u.volume ≡ s.volume
@@ -163,7 +163,7 @@ room_there s used row parts need long is fits nowhere =
 
 -- ---- one entry more, and the journal goes on
 
-pub ready_after : (tells : Bool) (text : List ℕ) (image : List ℕ → Type 0) (half used : ℕ) (s : Export) → IsJournalReady tells text image half used s → (row : List ℕ) (c : Call) (e : Entry) → entry_of c ≡ Some e → IsRow (e ∷ []) row → IsAccepted s c → IsWhole (export_after s c)
+pub ready_after : (tells : Bool) (text : List ℕ) (image : List ℕ → Type 0) (half used : ℕ) (s : Export) → IsJournalReady tells text image half used s → (row : List ℕ) (c : Call) (e : JournalEntry) → entry_of c ≡ Some e → IsRow (e ∷ []) row → IsAccepted s c → IsWhole (export_after s c)
     → (new : List ℕ) (left : List ℕ → Type 0) (side count : ℕ) (u : Export) → u ≡ export_after s c → IsHalfOpen tells new left side count → (IsTrue tells → Becomes (with_last (entry_bytes e)) text new) → IsJournalReady tells new left side count u
 ready_after tells text image half used s ready row c e at is accepted whole new left side count u same is_open becomes =
     subst (λ (v : Export). IsJournalReady tells new left side count v) (sym same)
@@ -206,7 +206,7 @@ after_by s u c r calls true true is_kept is_good proper answered after =
 after_by s u c r calls true false is_kept is_good proper answered after = same_after s u calls after (answered_not s u c r answered is_good)
 after_by s u c r calls false good is_kept is_good proper answered after = same_after s u calls after (answered_unkept s u c r answered (none_of (entry_of c) is_kept))
   where
-    none_of : (o : Option Entry) → is_some o ≡ false → o ≡ None
+    none_of : (o : Option JournalEntry) → is_some o ≡ false → o ≡ None
     none_of None is = refl
     none_of (Some e) is = absurd (cc)
 
@@ -236,12 +236,12 @@ calls_answer old new c answer.Closed proper is = tt
 -- ---- an entry that fits goes behind the others
 
 -- a row is as long as its entry says
-row_same : (c : Call) (row : List ℕ) → IsRowOf c row → (e : Entry) → entry_of c ≡ Some e → length row ≡ row_length e
+row_same : (c : Call) (row : List ℕ) → IsRowOf c row → (e : JournalEntry) → entry_of c ≡ Some e → length row ≡ row_length e
 row_same c row (d, at, is) e there =
     let both : Some d ≡ Some e = sym at ∙ there in
     let same : d ≡ e = cc in
     let long = row_long (d ∷ []) row is in
-    subst (λ (x : Entry). length row ≡ row_length x) same (omega (arith, long))
+    subst (λ (x : JournalEntry). length row ≡ row_length x) same (omega (arith, long))
 
 -- where its number is the same, the half that counted still counts
 pub same_half : (tells : Bool) (text : List ℕ) (image : List ℕ → Type 0) (half used : ℕ) (s : Export) → IsJournalReady tells text image half used s

@@ -2,7 +2,7 @@
 use Rattle.std.proofs.Common.{◌≡◌, inr, ℕ, ◌+◌, ◌-◌, ◌%◌, ◌<◌, List, [], ◌∷◌, ◌++◌, length, take, drop, get_or, Result, Ok, Err, IfOk, refl, sym, ◌∙◌, ap, subst, arith}
 use Rattle.byteorder.specs.Endian.{little_number}
 use Rattle.rz_disk.specs.Images.{window}
-use Rattle.rz_journal_text.specs.declared.entry.Entry.{Entry as Said}
+use Rattle.rz_journal_text.specs.declared.entry.JournalEntry.{JournalEntry as Said}
 use Rattle.rz_journal_text.specs.declared.fault.EntryFault.{EntryFault}
 use Rattle.rz_journal_text.specs.declared.fault.EntryFault.TheVariants.{BadEntry}
 use Rattle.rz_journal_text.specs.Spelling.{Spells}

@@ -12,8 +12,8 @@ use Rattle.rz_events.specs.declared.export.Call.TheVariants as call
 use Rattle.rz_export_model.specs.Export.{Export, new_export, is_proper, export_reply, export_after}
 use Rattle.rz_export.specs.Parts.{export_parts}
 use Rattle.rz_export_laws.specs.Whole.{ArePartsAgain}
-use Rattle.rz_journal_text.specs.declared.entry.Entry.{Entry}
-use Rattle.rz_journal_text.specs.declared.entry.Entry.TheVariants as entry
+use Rattle.rz_journal_text.specs.declared.entry.JournalEntry.{JournalEntry}
+use Rattle.rz_journal_text.specs.declared.entry.JournalEntry.TheVariants as entry
 use Rattle.rz_journal_text.specs.Spelling.{IsShort, HasShortTexts, Spells}
 use Rattle.rz_journal.specs.Row.{Entries}
 use Rattle.rz_journal.specs.Said.{only_looks, is_long, has_long_text, entry_of, call_said, accepts}
@@ -46,14 +46,14 @@ short_texts (Symlink target path) bad = let parts = both_false (is_long target) 
 
 -- ---- the call that an entry says does what the call does that it was made of
 
-pub record SaysSame (s : Export) (c : Call) (e : Entry) (d : Call) : Type 0 where
+pub record SaysSame (s : Export) (c : Call) (e : JournalEntry) (d : Call) : Type 0 where
   pub said : call_said e ≡ Some d
   pub kept : IsSome (entry_of d)
   pub proper : is_proper s d ≡ is_proper s c
   pub reply : export_reply s d ≡ export_reply s c
   pub after : export_after s d ≡ export_after s c
 
-tree_said : (s : Export) (c : TreeCall) (b : Bool) → (only_looks c || has_long_text c) ≡ b → (e : Entry) → cond b None (Some (entry.Tree c)) ≡ Some e → SaysSame s (call.Tree c) e (call.Tree c)
+tree_said : (s : Export) (c : TreeCall) (b : Bool) → (only_looks c || has_long_text c) ≡ b → (e : JournalEntry) → cond b None (Some (entry.Tree c)) ≡ Some e → SaysSame s (call.Tree c) e (call.Tree c)
 tree_said s c true is e at = absurd (cc)
 tree_said s c false is e at =
     let same : entry.Tree c ≡ e = cc in
@@ -65,7 +65,7 @@ tree_said s c false is e at =
       after = refl;
     }
 
-pub said_same : (s : Export) (c : Call) (e : Entry) → entry_of c ≡ Some e → (d : Call) × SaysSame s c e d
+pub said_same : (s : Export) (c : Call) (e : JournalEntry) → entry_of c ≡ Some e → (d : Call) × SaysSame s c e d
 said_same s (call.Tree c) e at = (call.Tree c, tree_said s c (only_looks c || has_long_text c) refl e at)
 said_same s (call.Begin key text) e at =
     let same : entry.Begin key (length text) ≡ e = cc in
@@ -89,7 +89,7 @@ said_same s (call.Look key) e at = absurd (cc)
 said_same s (call.Next node after) e at = absurd (cc)
 said_same s (call.Recheck key) e at = absurd (cc)
 
-pub accepted_said : (s : Export) (c : Call) (e : Entry) (d : Call) → SaysSame s c e d → IsAccepted s c → IsAccepted s d
+pub accepted_said : (s : Export) (c : Call) (e : JournalEntry) (d : Call) → SaysSame s c e d → IsAccepted s c → IsAccepted s d
 accepted_said s c e d same is = record {
   kept = same.kept;
   proper = same.proper ∙ is.proper;
@@ -106,7 +106,7 @@ pub accepted_more : (s : Export) (calls : List Call) (c : Call) → AreAccepted 
 accepted_more s [] c all one = (one, tt)
 accepted_more s (d ∷ calls) c all one = (all.0, accepted_more (export_after s d) calls c all.1 one)
 
-pub said_more : (later : List Entry) (calls : List Call) (e : Entry) (d : Call) → map call_said later ≡ map Some calls → call_said e ≡ Some d → map call_said (later ++ e ∷ []) ≡ map Some (calls ++ d ∷ [])
+pub said_more : (later : List JournalEntry) (calls : List Call) (e : JournalEntry) (d : Call) → map call_said later ≡ map Some calls → call_said e ≡ Some d → map call_said (later ++ e ∷ []) ≡ map Some (calls ++ d ∷ [])
 said_more [] [] e d all one = ap (λ (o : Option Call). o ∷ []) one
 said_more [] (c ∷ calls) e d all one = absurd (cc)
 said_more (x ∷ later) [] e d all one = absurd (cc)
@@ -116,7 +116,7 @@ said_more (x ∷ later) (c ∷ calls) e d all one =
     ap (λ (o : Option Call). o ∷ map call_said (later ++ e ∷ [])) head ∙ ap (λ (os : List (Option Call)). Some c ∷ os) (said_more later calls e d tail one)
 
 -- entries with one accepted call more make the export after it
-pub makes_more : (volume : Volume) (entries : List Entry) (s : Export) (c : Call) (e : Entry) → Makes volume entries s → IsAccepted s c → entry_of c ≡ Some e → Makes volume (entries ++ e ∷ []) (export_after s c)
+pub makes_more : (volume : Volume) (entries : List JournalEntry) (s : Export) (c : Call) (e : JournalEntry) → Makes volume entries s → IsAccepted s c → entry_of c ≡ Some e → Makes volume (entries ++ e ∷ []) (export_after s c)
 makes_more volume entries s c e makes is at =
     let found = said_same s c e at in
     let d = found.0 in
@@ -127,7 +127,7 @@ makes_more volume entries s c e makes is at =
       begins = makes.begins;
       later = makes.later ++ e ∷ [];
       calls = makes.calls ++ d ∷ [];
-      are = ap (λ (es : List Entry). es ++ e ∷ []) makes.are ∙ append_assoc (map entry.Built makes.parts) makes.later (e ∷ []);
+      are = ap (λ (es : List JournalEntry). es ++ e ∷ []) makes.are ∙ append_assoc (map entry.Built makes.parts) makes.later (e ∷ []);
       said = said_more makes.later makes.calls e d makes.said found.1.said;
       accepted = accepted_more makes.first makes.calls d makes.accepted there;
       made = sym found.1.after ∙ ap (λ (u : Export). export_after u d) makes.made ∙ sym (after_more makes.first makes.calls d);
@@ -161,7 +161,7 @@ makes_none volume = record {
   made = refl;
 }
 
-pub spelled_more : (bytes : Entries) (entries : List Entry) (b : List ℕ) (e : Entry) → AreSpelled bytes entries → Spells b e → AreSpelled (bytes ++ b ∷ []) (entries ++ e ∷ [])
+pub spelled_more : (bytes : Entries) (entries : List JournalEntry) (b : List ℕ) (e : JournalEntry) → AreSpelled bytes entries → Spells b e → AreSpelled (bytes ++ b ∷ []) (entries ++ e ∷ [])
 spelled_more [] [] b e all one = (one, tt)
 spelled_more [] (x ∷ xs) b e all one = absurd all
 spelled_more (y ∷ ys) [] b e all one = absurd all

@@ -16,8 +16,8 @@ use Rattle.rz_tree.specs.Added.{IsRootPart, AreNamed}
 use Rattle.rz_export.specs.Calls.{IsAnswered, MayWant}
 use Rattle.rz_export.specs.Building.{with_part, with_parts, made_of, IsCounters, MayBeNext, MayFollow, AllFollow, MayAdd, AllAdd}
 use Rattle.rz_export.proofs.Joined.{made-more, all-add}
-use Rattle.rz_journal_text.specs.declared.entry.Entry.{Entry as Said}
-use Rattle.rz_journal_text.specs.declared.entry.Entry.TheVariants as entry
+use Rattle.rz_journal_text.specs.declared.entry.JournalEntry.{JournalEntry as Said}
+use Rattle.rz_journal_text.specs.declared.entry.JournalEntry.TheVariants as entry
 use Rattle.rz_journal.specs.declared.reading.EntryFound.{EntryFound}
 use Rattle.rz_journal.specs.declared.reading.EntryFound.TheVariants.{End, Entry, Damaged}
 use Rattle.rz_journal.specs.declared.rebuilding.ReopenProgress.{ReopenProgress}

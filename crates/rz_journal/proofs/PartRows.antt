@@ -7,15 +7,15 @@ use Rattle.std.proofs.lemmas.List.{drop_all, drop_more}
 use Rattle.std.proofs.lemmas.Option.{slice_get_within, get_or_from_slice_get, slice_get-get_or}
 use Rattle.rz_tree.specs.declared.parts.Part.{Part}
 use Rattle.rz_export.specs.Parts.{IsBefore}
-use Rattle.rz_journal_text.specs.declared.entry.Entry.{Entry}
-use Rattle.rz_journal_text.specs.declared.entry.Entry.TheVariants.{Built}
+use Rattle.rz_journal_text.specs.declared.entry.JournalEntry.{JournalEntry}
+use Rattle.rz_journal_text.specs.declared.entry.JournalEntry.TheVariants.{Built}
 use Rattle.rz_journal_text.specs.Spelling.{entry_bytes, Spells}
 use Rattle.rz_journal.specs.Row.{framed, row_bytes}
 use Rattle.rz_journal.specs.JournalText.{AreSpelled}
 use Rattle.rz_journal.specs.Room.{bytes_of, IsRow}
 
 -- one entry alone
-pub row_alone : (row : List ℕ) (e : Entry) → row ≡ framed (entry_bytes e) ++ 0 ∷ [] → Spells (entry_bytes e) e → IsRow (e ∷ []) row
+pub row_alone : (row : List ℕ) (e : JournalEntry) → row ≡ framed (entry_bytes e) ++ 0 ∷ [] → Spells (entry_bytes e) e → IsRow (e ∷ []) row
 row_alone row e is spelled = ((spelled, tt), is)
 
 -- the row so far and that of the parts that are left are the whole

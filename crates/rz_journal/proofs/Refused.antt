@@ -26,7 +26,7 @@ use Rattle.rz_export_model.specs.Tree.{Tree, Found, found_at, info_of}
 use Rattle.rz_export_model.specs.TreeCalls.{answer_to, changed_by, attr_of}
 use Rattle.rz_export_model.specs.Refusals.{path_in, unreadable, unreadable_or_root, bad_target, refusal}
 use Rattle.rz_export_model.specs.Export.{Export, Blocks, Enrolled, new_places, no_begin, no_publish, spent, draws, enroll_reply, new_fence, blocks_after, after_tree, after_begin, after_publish, export_reply, export_after, published_stamp}
-use Rattle.rz_journal_text.specs.declared.entry.Entry.TheVariants as entry
+use Rattle.rz_journal_text.specs.declared.entry.JournalEntry.TheVariants as entry
 use Rattle.rz_journal.specs.Said.{only_looks, is_long, has_long_text, entry_of, accepts}
 
 -- ---- a call on names, by its refusal

@@ -4,8 +4,8 @@ use Rattle.rz_disk.specs.Images.{window}
 use Rattle.rz_events.specs.Volume.{Volume}
 use Rattle.rz_export_model.specs.Export.{Export, new_export}
 use Rattle.rz_events.specs.declared.export.Call.TheVariants as call
-use Rattle.rz_journal_text.specs.declared.entry.Entry.{Entry as Said}
-use Rattle.rz_journal_text.specs.declared.entry.Entry.TheVariants as entry
+use Rattle.rz_journal_text.specs.declared.entry.JournalEntry.{JournalEntry as Said}
+use Rattle.rz_journal_text.specs.declared.entry.JournalEntry.TheVariants as entry
 use Rattle.rz_journal_text.proofs.EntryLaws.{one_entry}
 use Rattle.rz_journal.specs.declared.half_opening.HalfFault.{HalfFault}
 use Rattle.rz_journal.specs.declared.half_opening.HalfFault.TheVariants as half

@@ -5,8 +5,8 @@ use Rattle.rz_events.specs.declared.export.Call.{Call}
 use Rattle.rz_export_model.specs.Export.{Export, new_export, is_proper, export_reply, export_after}
 use Rattle.rz_tree.specs.declared.parts.Part.{Part}
 use Rattle.rz_export.specs.Building.{ArePartsOf, made_of}
-use Rattle.rz_journal_text.specs.declared.entry.Entry.{Entry}
-use Rattle.rz_journal_text.specs.declared.entry.Entry.TheVariants.{Built}
+use Rattle.rz_journal_text.specs.declared.entry.JournalEntry.{JournalEntry}
+use Rattle.rz_journal_text.specs.declared.entry.JournalEntry.TheVariants.{Built}
 use Rattle.rz_journal_text.specs.Spelling.{Spells}
 use Rattle.rz_journal.specs.Row.{Entries}
 use Rattle.rz_journal.specs.Stands.{StandsFor}
@@ -35,11 +35,11 @@ BeginsWith volume [] s = s ≡ new_export volume 0
 BeginsWith volume (part ∷ parts) s = ArePartsOf volume (part ∷ parts) × (s ≡ made_of volume (part ∷ parts))
 
 -- The entries are parts, and then calls that are accepted, and make this export.
-pub record Makes (volume : Volume) (entries : List Entry) (s : Export) : Type 0 where
+pub record Makes (volume : Volume) (entries : List JournalEntry) (s : Export) : Type 0 where
   pub parts : List Part
   pub first : Export
   pub begins : BeginsWith volume parts first
-  pub later : List Entry
+  pub later : List JournalEntry
   pub calls : List Call
   pub are : entries ≡ map Built parts ++ later
   pub said : map call_said later ≡ map Some calls
@@ -47,7 +47,7 @@ pub record Makes (volume : Volume) (entries : List Entry) (s : Export) : Type 0 
   pub made : s ≡ after_all first calls
 
 -- these are the bytes of these entries
-abbrev pub AreSpelled : Entries → List Entry → Type 0
+abbrev pub AreSpelled : Entries → List JournalEntry → Type 0
 AreSpelled [] [] = Unit {0}
 AreSpelled [] (entry ∷ entries) = ⊥
 AreSpelled (bytes ∷ others) [] = ⊥
@@ -56,7 +56,7 @@ AreSpelled (bytes ∷ others) (entry ∷ entries) = Spells bytes entry × AreSpe
 -- The text's entries make this export.
 pub record Keeps (volume : Volume) (text : List ℕ) (s : Export) : Type 0 where
   pub bytes : Entries
-  pub entries : List Entry
+  pub entries : List JournalEntry
   pub stands : StandsFor text bytes
   pub spelled : AreSpelled bytes entries
   pub makes : Makes volume entries s

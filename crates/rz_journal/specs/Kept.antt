@@ -3,7 +3,7 @@ use Rattle.std.specs.Prelude.{◌≡◌, ◌⊎◌, ℕ, Bool, IsTrue, List, [],
 use Rattle.rz_events.specs.declared.export.Call.{Call}
 use Rattle.rz_export_model.specs.Export.{Export, new_export, export_after}
 use Rattle.rz_export_laws.specs.Whole.{IsWhole}
-use Rattle.rz_journal_text.specs.declared.entry.Entry.{Entry}
+use Rattle.rz_journal_text.specs.declared.entry.JournalEntry.{JournalEntry}
 use Rattle.rz_journal.specs.Stands.{IsHalfOpen}
 use Rattle.rz_journal.specs.Said.{entry_of}
 use Rattle.rz_journal.specs.JournalText.{IsAccepted, AreAccepted, after_all, Keeps, IsTextOf}
@@ -28,7 +28,7 @@ AllKeepEither image s c = (text : List ℕ) → image text → KeepsEither s c t
 
 -- the row of the entry of a call
 abbrev pub IsRowOf : Call → List ℕ → Type 0
-IsRowOf c row = (e : Entry) × (entry_of c ≡ Some e) × IsRow (e ∷ []) row
+IsRowOf c row = (e : JournalEntry) × (entry_of c ≡ Some e) × IsRow (e ∷ []) row
 
 -- A new store accepted these calls, and this is the export after them.
 pub record IsExportAfter (s : Export) (calls : List Call) : Type 0 where

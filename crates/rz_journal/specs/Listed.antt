@@ -2,7 +2,7 @@
 use Rattle.std.specs.Prelude.{◌≡◌, ◌⊎◌, ℕ, ◌+◌, ◌%◌, ◌<◌, ◌≤◌, List, length, drop, slice_index}
 use Rattle.byteorder.specs.Endian.{little_number}
 use Rattle.rz_disk.specs.Images.{window}
-use Rattle.rz_journal_text.specs.declared.entry.Entry.{Entry as Said}
+use Rattle.rz_journal_text.specs.declared.entry.JournalEntry.{JournalEntry as Said}
 use Rattle.rz_journal_text.specs.Spelling.{Spells}
 use Rattle.rz_journal.specs.Row.{Entries, taken, IsEntryAt, Row}
 use Rattle.rz_journal.specs.declared.reading.EntryFound.{EntryFound}

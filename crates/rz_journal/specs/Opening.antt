@@ -7,8 +7,8 @@ use Rattle.rz_events.specs.declared.export.Call.TheVariants as call
 use Rattle.rz_export_model.specs.Export.{Export, new_export, export_after}
 use Rattle.rz_tree.specs.declared.parts.Part.{Part}
 use Rattle.rz_export.specs.Building.{with_part, made_of, MayFollow, AllFollow, ArePartsOf}
-use Rattle.rz_journal_text.specs.declared.entry.Entry.{Entry as Said}
-use Rattle.rz_journal_text.specs.declared.entry.Entry.TheVariants as entry
+use Rattle.rz_journal_text.specs.declared.entry.JournalEntry.{JournalEntry as Said}
+use Rattle.rz_journal_text.specs.declared.entry.JournalEntry.TheVariants as entry
 use Rattle.rz_journal.specs.declared.half_opening.HalfFault.{HalfFault}
 use Rattle.rz_journal.specs.declared.half_opening.HalfFault.TheVariants as half
 use Rattle.rz_journal.specs.Stands.{disk_bytes, half_bytes, half_at, IsJournal}

@@ -7,8 +7,8 @@ use Rattle.rz_events.specs.declared.export.Call.{Call}
 use Rattle.rz_events.specs.declared.export.Call.TheVariants as call
 use Rattle.rz_events.specs.declared.export.Reply.{Reply}
 use Rattle.rz_events.specs.declared.export.Reply.TheVariants as reply
-use Rattle.rz_journal_text.specs.declared.entry.Entry.{Entry}
-use Rattle.rz_journal_text.specs.declared.entry.Entry.TheVariants as entry
+use Rattle.rz_journal_text.specs.declared.entry.JournalEntry.{JournalEntry}
+use Rattle.rz_journal_text.specs.declared.entry.JournalEntry.TheVariants as entry
 
 -- a call on names that only looks
 abbrev pub only_looks : TreeCall → Bool
@@ -47,7 +47,7 @@ has_long_text (Link path to) = is_long path || is_long to
 has_long_text (Symlink target path) = is_long target || is_long path
 
 -- the entry of a call that may change the export; of a write that begins its length alone is kept
-abbrev pub entry_of : Call → Option Entry
+abbrev pub entry_of : Call → Option JournalEntry
 entry_of (call.Tree c) = cond (only_looks c || has_long_text c) None (Some (entry.Tree c))
 entry_of (call.Begin key text) = Some (entry.Begin key (length text))
 entry_of (call.Publish key stamp mask bytes) = Some (entry.Publish key stamp mask bytes)
@@ -57,7 +57,7 @@ entry_of (call.Next node after) = None
 entry_of (call.Recheck key) = None
 
 -- the call that an entry says; zeros stand for the text of a write that begins
-abbrev pub call_said : Entry → Option Call
+abbrev pub call_said : JournalEntry → Option Call
 call_said (entry.Tree c) = Some (call.Tree c)
 call_said (entry.Begin key bytes) = Some (call.Begin key (replicate bytes 0))
 call_said (entry.Publish key stamp mask bytes) = Some (call.Publish key stamp mask bytes)

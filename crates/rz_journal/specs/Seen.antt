@@ -7,7 +7,7 @@ use Rattle.rz_events.specs.declared.export.Reply.TheVariants.{NoMemory}
 use Rattle.rz_export_model.specs.Codes.{export_code}
 use Rattle.rz_export_model.specs.Export as model
 use Rattle.rz_export.specs.Calls.{IsAnswered}
-use Rattle.rz_journal_text.specs.declared.entry.Entry.{Entry}
+use Rattle.rz_journal_text.specs.declared.entry.JournalEntry.{JournalEntry}
 use Rattle.rz_journal.specs.declared.journal.JournalReply.{JournalReply}
 use Rattle.rz_journal.specs.declared.journal.JournalReply.TheVariants as answer
 use Rattle.rz_journal.specs.Said.{entry_of, accepts, used_after}
@@ -28,7 +28,7 @@ view_code {D = D} disk =
 
 -- there is room for the entry of a call, if it has one
 abbrev pub HasEntryRoom : {D : Type 0} → JournalView D → Call → Type 0
-HasEntryRoom j c = (e : Entry) → entry_of c ≡ Some e → ¬ FitsNowhere j.export j.used (row_length e)
+HasEntryRoom j c = (e : JournalEntry) → entry_of c ≡ Some e → ¬ FitsNowhere j.export j.used (row_length e)
 
 -- the export's reply; or memory is wanting for the entry, and the export stays as it is
 abbrev pub IsJournalReply : {D : Type 0} → JournalView D → Call → Reply → JournalView D → Type 0
@@ -37,7 +37,7 @@ IsJournalReply old c r new =
 
 -- there is no room for the entry of a call, and these are the bytes that would be needed
 abbrev pub IsFull : {D : Type 0} → JournalView D → Call → ℕ → Type 0
-IsFull j c need = (e : Entry) × (entry_of c ≡ Some e) × FitsNowhere j.export j.used (row_length e) × (need ≡ needed j.export (row_length e))
+IsFull j c need = (e : JournalEntry) × (entry_of c ≡ Some e) × FitsNowhere j.export j.used (row_length e) × (need ≡ needed j.export (row_length e))
 
 -- what an open journal answers
 abbrev pub IsOpenAnswer : {D : Type 0} → JournalView D → Call → JournalReply → JournalView D → Type 0
@@ -54,7 +54,7 @@ IsJournalAnswer old c r new =
 -- where the entry of a call fits behind the others it goes there, in the half that counted before
 abbrev pub IsInPlace : {D : Type 0} → Bool → (D → List ℕ) → JournalView D → Call → Reply → JournalView D → Type 0
 IsInPlace tells text old c r new =
-    (e : Entry) → entry_of c ≡ Some e → old.used + row_length e ≤ 8_388_576
+    (e : JournalEntry) → entry_of c ≡ Some e → old.used + row_length e ≤ 8_388_576
     → (new.used ≡ used_after r (row_length e) old.used) × (IsTrue tells → IsSameHalf (text old.disk) (text new.disk))
 
 -- these calls, and the present one where it has an entry and was accepted

@@ -5,7 +5,7 @@ ghost use Rattle.byteorder.specs.Endian.{little_number};
 ghost use Rattle.rz_journal.specs.Listed.{IsEntryFound};
 
 use crate::{EntryPlace, place_at};
-use rz_journal_text::{Entry, EntryFault, read};
+use rz_journal_text::{EntryFault, JournalEntry, read};
 use std::alloc::{AllocError, Global};
 
 /// What stands at an address of a half.
@@ -14,7 +14,7 @@ pub enum EntryFound {
     /// The entries before are all.
     End,
     /// An entry, and the address behind it.
-    Entry { entry: Entry, next: usize },
+    Entry { entry: JournalEntry, next: usize },
     /// There is no room for an entry, or no entry has the bytes.
     Damaged,
 }

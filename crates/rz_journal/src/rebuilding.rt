@@ -5,7 +5,7 @@ ghost use Rattle.rz_events.specs.Borrowed.{call_of};
 ghost use Rattle.rz_events.specs.declared.export.Call.{Call};
 ghost use Rattle.rz_export_model.specs.Export.{new_export, is_proper, export_reply, export_after};
 ghost use Rattle.rz_export.specs.Building.{IsCounters};
-ghost use Rattle.rz_journal_text.specs.declared.entry.Entry.{Entry};
+ghost use Rattle.rz_journal_text.specs.declared.entry.JournalEntry.{JournalEntry};
 ghost use Rattle.rz_journal.specs.Said.{entry_of, call_said, accepts};
 ghost use Rattle.rz_journal.specs.Opening.{IsSomeStage, TellsEnd, TellsPart, IsAdded, after_part, MakeExport, StopsAtEntry};
 
@@ -14,7 +14,7 @@ use crate::said::{accepts, is_kept};
 use rz_config::Volume;
 use rz_events::{Call, CallRef, Key, Reply, Text};
 use rz_export::Export;
-use rz_journal_text::Entry;
+use rz_journal_text::JournalEntry;
 use rz_tree::Part;
 use std::alloc::{AllocError, Global};
 
@@ -93,15 +93,15 @@ impl Rebuilt {
     }
 
     // Adds an entry, and tells whether it may stand behind those before it.
-    fn add(&mut self, alloc: Global, entry: Entry) -> Result<bool, AllocError>
+    fn add(&mut self, alloc: Global, entry: JournalEntry) -> Result<bool, AllocError>
         requires { IsSomeStage self.old.stage self.old.export }
         ensures { IfOk result (λ goes. IsAdded entry self.old.stage self.old.export goes self.new.stage self.new.export) }
     {
         match entry {
-            Entry::Built(part) => self.take_part(part),
-            Entry::Tree(call) => self.take_call(Call::Tree(call)),
-            Entry::Begin { key, bytes } => self.add_begin(alloc, key, bytes),
-            Entry::Publish {
+            JournalEntry::Built(part) => self.take_part(part),
+            JournalEntry::Tree(call) => self.take_call(Call::Tree(call)),
+            JournalEntry::Begin { key, bytes } => self.add_begin(alloc, key, bytes),
+            JournalEntry::Publish {
                 key,
                 stamp,
                 mask,
@@ -112,14 +112,14 @@ impl Rebuilt {
                 mask,
                 length: bytes,
             }),
-            Entry::Enroll { node, loss } => self.take_call(Call::Enroll { node, loss }),
+            JournalEntry::Enroll { node, loss } => self.take_call(Call::Enroll { node, loss }),
         }
     }
 
     // Adds a part, and tells whether it may stand behind the entries before it.
     fn add_part(&mut self, part: &Part) -> Result<bool, AllocError>
         requires { IsSomeStage self.old.stage self.old.export }
-        ensures { IfOk result (λ goes. IsAdded (Entry.Built part.now) self.old.stage self.old.export goes self.new.stage self.new.export) }
+        ensures { IfOk result (λ goes. IsAdded (JournalEntry.Built part.now) self.old.stage self.old.export goes self.new.stage self.new.export) }
     {
         if !self.lets_follow(part) {
             return Ok(false);
@@ -132,7 +132,7 @@ impl Rebuilt {
     // Adds the begin of a write of so many bytes. More than a block has are refused before any memory
     // is taken for them.
     fn add_begin(&mut self, alloc: Global, key: Key, bytes: u32) -> Result<bool, AllocError>
-        ensures { IfOk result (λ goes. IsAdded (Entry.Begin key bytes) self.old.stage self.old.export goes self.new.stage self.new.export) }
+        ensures { IfOk result (λ goes. IsAdded (JournalEntry.Begin key bytes) self.old.stage self.old.export goes self.new.stage self.new.export) }
     {
         if self.export.layout().block_bytes() < bytes as usize {
             return Ok(false);
@@ -144,7 +144,7 @@ impl Rebuilt {
     // Adds a part, which goes then.
     fn take_part(&mut self, part: Part) -> Result<bool, AllocError>
         requires { IsSomeStage self.old.stage self.old.export }
-        ensures { IfOk result (λ goes. IsAdded (Entry.Built part) self.old.stage self.old.export goes self.new.stage self.new.export) }
+        ensures { IfOk result (λ goes. IsAdded (JournalEntry.Built part) self.old.stage self.old.export goes self.new.stage self.new.export) }
     {
         let goes = self.add_part(&part);
         drop(part);
@@ -153,7 +153,7 @@ impl Rebuilt {
 
     // Adds a call, which goes then.
     fn take_call(&mut self, call: Call) -> Result<bool, AllocError>
-        ensures { IfOk result (λ goes. (e : Entry) → call_said e ≡ Some call → IsAdded e self.old.stage self.old.export goes self.new.stage self.new.export) }
+        ensures { IfOk result (λ goes. (e : JournalEntry) → call_said e ≡ Some call → IsAdded e self.old.stage self.old.export goes self.new.stage self.new.export) }
     {
         let goes = self.add_call(call.borrowed());
         drop(call);
@@ -162,7 +162,7 @@ impl Rebuilt {
 
     // Adds a call, and tells whether it may stand behind the entries before it.
     fn add_call(&mut self, call: CallRef<'_>) -> Result<bool, AllocError>
-        ensures { IfOk result (λ goes. (e : Entry) → call_said e ≡ Some (call_of call.entry) → IsAdded e self.old.stage self.old.export goes self.new.stage self.new.export) }
+        ensures { IfOk result (λ goes. (e : JournalEntry) → call_said e ≡ Some (call_of call.entry) → IsAdded e self.old.stage self.old.export goes self.new.stage self.new.export) }
     {
         if !self.ends_well() {
             return Ok(false);

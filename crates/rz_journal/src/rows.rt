@@ -13,7 +13,7 @@ use crate::said::entry_of;
 use crate::{close_row, push_entry};
 use rz_events::CallRef;
 use rz_export::Export;
-use rz_journal_text::{Entry, write};
+use rz_journal_text::{JournalEntry, write};
 use rz_tree::Part;
 use std::alloc::{AllocError, Global};
 
@@ -32,7 +32,7 @@ pub fn call_row(alloc: Global, call: CallRef<'_>) -> Result<Option<Vec<u8>>, All
 }
 
 /// The row of one entry, with the shut gate behind it.
-fn row_of(alloc: Global, entry: &Entry) -> Result<Vec<u8>, AllocError>
+fn row_of(alloc: Global, entry: &JournalEntry) -> Result<Vec<u8>, AllocError>
     requires { MayStand entry.now }
     ensures { IfOk result (λ row. IsRow (entry.now ∷ []) row.items) }
 {
@@ -65,18 +65,18 @@ pub fn parts_row(alloc: Global, export: &Export) -> Result<Vec<u8>, AllocError>
 
 // Adds the entry of a part, which goes then.
 fn push_part(alloc: Global, part: Part, row: &mut Vec<u8>) -> Result<(), AllocError>
-    requires { MayStand (Entry.Built part) }
-    ensures row { OnOk result (row.new.items ≡ row.old.items ++ framed (entry_bytes (Entry.Built part))) }
-    ensures spelled { OnOk result (Spells (entry_bytes (Entry.Built part)) (Entry.Built part)) }
+    requires { MayStand (JournalEntry.Built part) }
+    ensures row { OnOk result (row.new.items ≡ row.old.items ++ framed (entry_bytes (JournalEntry.Built part))) }
+    ensures spelled { OnOk result (Spells (entry_bytes (JournalEntry.Built part)) (JournalEntry.Built part)) }
 {
-    let entry = Entry::Built(part);
+    let entry = JournalEntry::Built(part);
     let pushed = push_row(alloc, &entry, row);
     drop(entry);
     pushed
 }
 
 // Adds an entry behind an open gate and its length.
-fn push_row(alloc: Global, entry: &Entry, row: &mut Vec<u8>) -> Result<(), AllocError>
+fn push_row(alloc: Global, entry: &JournalEntry, row: &mut Vec<u8>) -> Result<(), AllocError>
     requires { MayStand entry.now }
     ensures row { OnOk result (row.new.items ≡ row.old.items ++ framed (entry_bytes entry.now)) }
     ensures spelled { OnOk result (Spells (entry_bytes entry.now) entry.now) }

@@ -7,11 +7,11 @@ ghost use Rattle.rz_journal_text.specs.Spelling.{MayStand};
 ghost use Rattle.rz_journal.specs.Said.{only_looks, is_long, has_long_text, entry_of, accepts, HasShortText};
 
 use rz_events::{CallRef, Reply, Text, TreeCall, TreeReply};
-use rz_journal_text::Entry;
+use rz_journal_text::JournalEntry;
 use std::alloc::{AllocError, Global};
 
 /// The entry of a call that may change the export. Of the text of a begin it has the length alone.
-pub fn entry_of(alloc: Global, call: CallRef<'_>) -> Result<Option<Entry>, AllocError>
+pub fn entry_of(alloc: Global, call: CallRef<'_>) -> Result<Option<JournalEntry>, AllocError>
     requires { HasShortText (call_of call) }
     ensures entry { IfOk result (λ entry. entry ≡ entry_of (call_of call.entry)) }
     ensures stands { IfOk result (λ entry. IfSome entry MayStand) }
@@ -19,17 +19,17 @@ pub fn entry_of(alloc: Global, call: CallRef<'_>) -> Result<Option<Entry>, Alloc
 {
     Ok(match call {
         CallRef::Tree(names) => return tree_entry(alloc, names),
-        CallRef::Begin { key, text } => Some(Entry::Begin {
+        CallRef::Begin { key, text } => Some(JournalEntry::Begin {
             key,
             bytes: text.len() as u32,
         }),
-        CallRef::Publish { key, published } => Some(Entry::Publish {
+        CallRef::Publish { key, published } => Some(JournalEntry::Publish {
             key,
             stamp: published.stamp,
             mask: published.mask,
             bytes: published.length,
         }),
-        CallRef::Enroll { node, loss } => Some(Entry::Enroll { node, loss }),
+        CallRef::Enroll { node, loss } => Some(JournalEntry::Enroll { node, loss }),
         CallRef::Look { .. } | CallRef::Next { .. } | CallRef::Recheck { .. } => None,
     })
 }
@@ -46,7 +46,7 @@ pub fn is_kept(call: CallRef<'_>) -> bool
 }
 
 // The entry of a call on names.
-fn tree_entry(alloc: Global, call: &TreeCall) -> Result<Option<Entry>, AllocError>
+fn tree_entry(alloc: Global, call: &TreeCall) -> Result<Option<JournalEntry>, AllocError>
     ensures entry { IfOk result (λ entry. entry ≡ entry_of (Call.Tree call.now)) }
     ensures stands { IfOk result (λ entry. IfSome entry MayStand) }
     ensures wanted { OnErr result (IsSome (entry_of (Call.Tree call.now))) }
@@ -57,7 +57,7 @@ fn tree_entry(alloc: Global, call: &TreeCall) -> Result<Option<Entry>, AllocErro
     if has_long_text(call) {
         return Ok(None);
     }
-    Ok(Some(Entry::Tree(call.copy(alloc)?)))
+    Ok(Some(JournalEntry::Tree(call.copy(alloc)?)))
 }
 
 // Whether a call on names only looks.

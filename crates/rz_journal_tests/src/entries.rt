@@ -2,13 +2,13 @@
 ghost use Rattle.rz_journal_text.specs.Spelling.{MayStand};
 
 use rz_events::{Key, Text, TreeCall};
-use rz_journal_text::{Entry, EntryFault, read, write};
+use rz_journal_text::{EntryFault, JournalEntry, read, write};
 use std::alloc::Global;
 use std::process::Abort;
 use std::test::Fail;
 
 // The bytes that are written of an entry, which goes then.
-fn written(rt: &(impl Abort + AllocGlobal), entry: Entry) -> Vec<u8>
+fn written(rt: &(impl Abort + AllocGlobal), entry: JournalEntry) -> Vec<u8>
     requires { MayStand entry }
 {
     let mut bytes = Vec::new(rt.alloc());
@@ -19,7 +19,7 @@ fn written(rt: &(impl Abort + AllocGlobal), entry: Entry) -> Vec<u8>
 }
 
 // Compares the bytes of an entry.
-fn is_written(rt: &(impl Abort + AllocGlobal), entry: Entry, wanted: &[u8])
+fn is_written(rt: &(impl Abort + AllocGlobal), entry: JournalEntry, wanted: &[u8])
     requires { MayStand entry }
 {
     let bytes = written(rt, entry);
@@ -32,14 +32,14 @@ fn is_written(rt: &(impl Abort + AllocGlobal), entry: Entry, wanted: &[u8])
 fn a_rename(rt: HostRuntime) -> Result<(), Fail> {
     let path = Text::from_bytes(rt.alloc(), b"/a").expect(&rt, "memory");
     let to = Text::from_bytes(rt.alloc(), b"/bc").expect(&rt, "memory");
-    let entry = Entry::Tree(TreeCall::Rename { path, to });
+    let entry = JournalEntry::Tree(TreeCall::Rename { path, to });
     is_written(&rt, entry, b"\x01\x0a\x02\x00/a\x03\x00/bc");
     Ok(())
 }
 
 #[test]
 fn a_publish(rt: HostRuntime) -> Result<(), Fail> {
-    let entry = Entry::Publish {
+    let entry = JournalEntry::Publish {
         key: Key { fid: 258, block: 3 },
         stamp: 4,
         mask: 0b101,

@@ -11,8 +11,8 @@ use Rattle.rz_events.specs.declared.tree.TreeCall.TheVariants.{Lookup, Getattr, 
 use Rattle.rz_export_model.specs.Paths.{Path, long_path_of}
 use Rattle.rz_tree.specs.declared.parts.Part.{Part}
 use Rattle.rz_tree.specs.declared.parts.Part.TheVariants.{Counters, Object, Name, Block, Enrolled}
-use Rattle.rz_journal_text.specs.declared.entry.Entry.{Entry}
-use Rattle.rz_journal_text.specs.declared.entry.Entry.TheVariants.{Tree, Begin, Publish, Enroll, Built}
+use Rattle.rz_journal_text.specs.declared.entry.JournalEntry.{JournalEntry}
+use Rattle.rz_journal_text.specs.declared.entry.JournalEntry.TheVariants.{Tree, Begin, Publish, Enroll, Built}
 use Rattle.rz_journal_text.specs.declared.fault.EntryFault.{EntryFault}
 use Rattle.rz_journal_text.specs.declared.fault.EntryFault.TheVariants.{NoMemory, BadEntry}
 
@@ -209,19 +209,19 @@ part_of_kind n =
 
 -- ---- entries
 
-unfoldable pub tree : Front Entry
+unfoldable pub tree : Front JournalEntry
 tree = do
   n ← byte
   call ← call_numbered n
   done (Tree call)
 
-unfoldable pub begin : Front Entry
+unfoldable pub begin : Front JournalEntry
 begin = do
   key ← key
   bytes ← number 4
   done (Begin key bytes)
 
-unfoldable pub publish : Front Entry
+unfoldable pub publish : Front JournalEntry
 publish = do
   key ← key
   stamp ← number 8
@@ -229,19 +229,19 @@ publish = do
   bytes ← number 4
   done (Publish key stamp mask bytes)
 
-unfoldable pub enroll : Front Entry
+unfoldable pub enroll : Front JournalEntry
 enroll = do
   node ← number 2
   loss ← number 8
   done (Enroll node loss)
 
-unfoldable pub built : ℕ → Front Entry
+unfoldable pub built : ℕ → Front JournalEntry
 built n = do
   part ← part_of_kind n
   done (Built part)
 
 -- the fields of an entry of a kind
-unfoldable pub fields : ℕ → Front Entry
+unfoldable pub fields : ℕ → Front JournalEntry
 fields n =
     if n == 1 then tree
     else if n == 2 then begin
@@ -249,7 +249,7 @@ fields n =
     else if n == 4 then enroll
     else built n
 
-unfoldable pub entry : Front Entry
+unfoldable pub entry : Front JournalEntry
 entry = do
   n ← byte
   fields n
@@ -259,7 +259,7 @@ abbrev pub ended : {A : Type 0} → A → Front A
 ended x [] = Some (x, [])
 ended x (b ∷ rest) = None
 
-unfoldable pub whole : Front Entry
+unfoldable pub whole : Front JournalEntry
 whole = do
   e ← entry
   ended e
@@ -279,7 +279,7 @@ GivesBytes (Err BadEntry) rest found = found ≡ None
 GivesBytes (Err NoMemory) rest found = ⊥
 
 -- this entry, unless memory is wanting
-abbrev pub IsThis : Entry → Result Entry EntryFault → Type 0
+abbrev pub IsThis : JournalEntry → Result JournalEntry EntryFault → Type 0
 IsThis this (Ok found) = found ≡ this
 IsThis this (Err BadEntry) = ⊥
 IsThis this (Err NoMemory) = ⊤

@@ -11,8 +11,8 @@ use Rattle.rz_events.specs.declared.tree.TreeCall.TheVariants.{Lookup, Getattr, 
 use Rattle.rz_export_model.specs.Paths.{Path, long_path_of}
 use Rattle.rz_tree.specs.declared.parts.Part.{Part}
 use Rattle.rz_tree.specs.declared.parts.Part.TheVariants.{Counters, Object, Name, Block, Enrolled}
-use Rattle.rz_journal_text.specs.declared.entry.Entry.{Entry}
-use Rattle.rz_journal_text.specs.declared.entry.Entry.TheVariants.{Tree, Begin, Publish, Enroll, Built}
+use Rattle.rz_journal_text.specs.declared.entry.JournalEntry.{JournalEntry}
+use Rattle.rz_journal_text.specs.declared.entry.JournalEntry.TheVariants.{Tree, Begin, Publish, Enroll, Built}
 
 -- a text behind its length
 abbrev pub text_bytes : List ℕ → List ℕ
@@ -100,7 +100,7 @@ part_fields (Block key latest published) = key_bytes key ++ (little_bytes 8 late
 part_fields (Enrolled node loss fence) = little_bytes 2 node ++ (little_bytes 8 loss ++ little_bytes 8 fence)
 
 -- the kind of an entry
-abbrev pub kind_of : Entry → ℕ
+abbrev pub kind_of : JournalEntry → ℕ
 kind_of (Tree call) = 1
 kind_of (Begin key bytes) = 2
 kind_of (Publish key stamp mask bytes) = 3
@@ -108,14 +108,14 @@ kind_of (Enroll node loss) = 4
 kind_of (Built part) = part_kind part
 
 -- the fields of an entry
-abbrev pub entry_fields : Entry → List ℕ
+abbrev pub entry_fields : JournalEntry → List ℕ
 entry_fields (Tree call) = call_bytes call
 entry_fields (Begin key bytes) = key_bytes key ++ little_bytes 4 bytes
 entry_fields (Publish key stamp mask bytes) = key_bytes key ++ (little_bytes 8 stamp ++ (little_bytes 2 mask ++ little_bytes 4 bytes))
 entry_fields (Enroll node loss) = little_bytes 2 node ++ little_bytes 8 loss
 entry_fields (Built part) = part_fields part
 
-abbrev pub entry_bytes : Entry → List ℕ
+abbrev pub entry_bytes : JournalEntry → List ℕ
 entry_bytes entry = kind_of entry ∷ entry_fields entry
 
 -- ---- an entry has room for the length of a text below 65,536 bytes, and of a path's below 2^32
@@ -149,7 +149,7 @@ PartMayStand (Name path fid) = IsSpelled path
 PartMayStand (Block key latest published) = Unit {0}
 PartMayStand (Enrolled node loss fence) = Unit {0}
 
-abbrev pub MayStand : Entry → Type 0
+abbrev pub MayStand : JournalEntry → Type 0
 MayStand (Tree call) = HasShortTexts call
 MayStand (Begin key bytes) = Unit {0}
 MayStand (Publish key stamp mask bytes) = Unit {0}
@@ -184,7 +184,7 @@ IsPart (Name path fid) = IsWide 16 fid
 IsPart (Block key latest published) = IsKey key × IsWide 8 latest × IsPublished published
 IsPart (Enrolled node loss fence) = IsWide 2 node × IsWide 8 loss × IsWide 8 fence
 
-abbrev pub IsEntry : Entry → Type 0
+abbrev pub IsEntry : JournalEntry → Type 0
 IsEntry (Tree call) = IsCall call
 IsEntry (Begin key bytes) = IsKey key × IsWide 4 bytes
 IsEntry (Publish key stamp mask bytes) = IsKey key × IsWide 8 stamp × IsWide 2 mask × IsWide 4 bytes
@@ -192,7 +192,7 @@ IsEntry (Enroll node loss) = IsWide 2 node × IsWide 8 loss
 IsEntry (Built part) = IsPart part
 
 -- these are the bytes of an entry
-pub record Spells (bytes : List ℕ) (entry : Entry) : Type 0 where
+pub record Spells (bytes : List ℕ) (entry : JournalEntry) : Type 0 where
   pub value : IsEntry entry
   pub stands : MayStand entry
   pub spelled : entry_bytes entry ≡ bytes

@@ -5,7 +5,7 @@ use rz_tree::Part;
 
 /// A call that changed the export, or a part of the export from which the calls go on.
 #[derive(Drop)]
-pub enum Entry {
+pub enum JournalEntry {
     Tree(TreeCall),
     /// A write of a block began, whose text has so many bytes.
     Begin {

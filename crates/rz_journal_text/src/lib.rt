@@ -26,7 +26,7 @@ mod reading;
 mod widths;
 mod writing;
 
-pub use entry::Entry;
+pub use entry::JournalEntry;
 pub use fault::EntryFault;
 pub use parts::path_text;
 pub use reading::read;

@@ -1,22 +1,22 @@
 //! Entries, read.
 
 ghost use Rattle.std.specs.Prelude.{◌≡◌, IfOk};
-ghost use Rattle.rz_journal_text.specs.declared.entry.Entry.{Entry};
+ghost use Rattle.rz_journal_text.specs.declared.entry.JournalEntry.{JournalEntry};
 ghost use Rattle.rz_journal_text.specs.Spelling.{Spells};
 ghost use Rattle.rz_journal_text.specs.Fronts.{Gives, IsThis, call_numbered, on_path, on_pair, setattr, tree, begin, publish, enroll, built, fields, entry, whole};
 
 use crate::front::Front;
 use crate::part_reading::read_part;
-use crate::{Entry, EntryFault};
+use crate::{EntryFault, JournalEntry};
 use rz_events::TreeCall;
 use std::alloc::Global;
 
 /// The entry that has these bytes.
-pub fn read(alloc: Global, bytes: &[u8]) -> Result<Entry, EntryFault>
+pub fn read(alloc: Global, bytes: &[u8]) -> Result<JournalEntry, EntryFault>
     ensures found { IfOk result (Spells bytes.now) }
 
     // No bytes are those of two entries, and each entry is read.
-    ensures exact { (e : Entry) → Spells bytes.now e → IsThis e result }
+    ensures exact { (e : JournalEntry) → Spells bytes.now e → IsThis e result }
 {
     let mut front = Front::of(bytes);
     read_whole(alloc, &mut front)
@@ -24,7 +24,7 @@ pub fn read(alloc: Global, bytes: &[u8]) -> Result<Entry, EntryFault>
 
 // The entry at the front, where nothing stands behind it.
 #[tactic(auto, unfolding(crate::specs::Fronts::whole))]
-fn read_whole(alloc: Global, front: &mut Front) -> Result<Entry, EntryFault>
+fn read_whole(alloc: Global, front: &mut Front) -> Result<JournalEntry, EntryFault>
     ensures { Gives result front.new (whole front.old) }
 {
     let entry = read_entry(alloc, front)?;
@@ -37,7 +37,7 @@ fn read_whole(alloc: Global, front: &mut Front) -> Result<Entry, EntryFault>
 
 // The entry at the front.
 #[tactic(auto, unfolding(crate::specs::Fronts::entry))]
-fn read_entry(alloc: Global, front: &mut Front) -> Result<Entry, EntryFault>
+fn read_entry(alloc: Global, front: &mut Front) -> Result<JournalEntry, EntryFault>
     ensures { Gives result front.new (entry front.old) }
 {
     let kind = front.byte()?;
@@ -46,7 +46,7 @@ fn read_entry(alloc: Global, front: &mut Front) -> Result<Entry, EntryFault>
 
 // The fields of an entry of this kind.
 #[tactic(auto, unfolding(crate::specs::Fronts::fields))]
-fn read_fields(alloc: Global, kind: u8, front: &mut Front) -> Result<Entry, EntryFault>
+fn read_fields(alloc: Global, kind: u8, front: &mut Front) -> Result<JournalEntry, EntryFault>
     ensures { Gives result front.new (fields kind front.old) }
 {
     match kind {
@@ -59,30 +59,30 @@ fn read_fields(alloc: Global, kind: u8, front: &mut Front) -> Result<Entry, Entr
 }
 
 #[tactic(auto, unfolding(crate::specs::Fronts::built))]
-fn read_built(alloc: Global, kind: u8, front: &mut Front) -> Result<Entry, EntryFault>
+fn read_built(alloc: Global, kind: u8, front: &mut Front) -> Result<JournalEntry, EntryFault>
     ensures { Gives result front.new (built kind front.old) }
 {
-    Ok(Entry::Built(read_part(alloc, kind, front)?))
+    Ok(JournalEntry::Built(read_part(alloc, kind, front)?))
 }
 
 #[tactic(auto, unfolding(crate::specs::Fronts::begin))]
-fn read_begin(front: &mut Front) -> Result<Entry, EntryFault>
+fn read_begin(front: &mut Front) -> Result<JournalEntry, EntryFault>
     ensures { Gives result front.new (begin front.old) }
 {
     let key = front.key()?;
     let bytes = front.u32()?;
-    Ok(Entry::Begin { key, bytes })
+    Ok(JournalEntry::Begin { key, bytes })
 }
 
 #[tactic(auto, unfolding(crate::specs::Fronts::publish))]
-fn read_publish(front: &mut Front) -> Result<Entry, EntryFault>
+fn read_publish(front: &mut Front) -> Result<JournalEntry, EntryFault>
     ensures { Gives result front.new (publish front.old) }
 {
     let key = front.key()?;
     let stamp = front.u64()?;
     let mask = front.u16()?;
     let bytes = front.u32()?;
-    Ok(Entry::Publish {
+    Ok(JournalEntry::Publish {
         key,
         stamp,
         mask,
@@ -91,20 +91,20 @@ fn read_publish(front: &mut Front) -> Result<Entry, EntryFault>
 }
 
 #[tactic(auto, unfolding(crate::specs::Fronts::enroll))]
-fn read_enroll(front: &mut Front) -> Result<Entry, EntryFault>
+fn read_enroll(front: &mut Front) -> Result<JournalEntry, EntryFault>
     ensures { Gives result front.new (enroll front.old) }
 {
     let node = front.u16()?;
     let loss = front.u64()?;
-    Ok(Entry::Enroll { node, loss })
+    Ok(JournalEntry::Enroll { node, loss })
 }
 
 #[tactic(auto, unfolding(crate::specs::Fronts::tree))]
-fn read_tree(alloc: Global, front: &mut Front) -> Result<Entry, EntryFault>
+fn read_tree(alloc: Global, front: &mut Front) -> Result<JournalEntry, EntryFault>
     ensures { Gives result front.new (tree front.old) }
 {
     let number = front.byte()?;
-    Ok(Entry::Tree(read_call(alloc, number, front)?))
+    Ok(JournalEntry::Tree(read_call(alloc, number, front)?))
 }
 
 // The call with this number among the calls on names.

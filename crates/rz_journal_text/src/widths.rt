@@ -3,25 +3,25 @@
 ghost use Rattle.std.specs.Prelude.{All};
 ghost use Rattle.rz_journal_text.specs.Spelling.{IsWide, IsKey, ArePlaces, IsPublished, IsCall, IsPart, IsEntry};
 
-use crate::Entry;
+use crate::JournalEntry;
 use rz_events::{Key, Places, Published, TreeCall};
 use rz_tree::Part;
 
 /// Each number of an entry has a value of its field's type.
-pub fn has_widths(entry: &Entry)
+pub fn has_widths(entry: &JournalEntry)
     ensures { IsEntry entry.now }
 {
     match entry {
-        Entry::Tree(call) => call_has_widths(call),
-        Entry::Begin { key, bytes } => begin_has_widths(*key, *bytes),
-        Entry::Publish {
+        JournalEntry::Tree(call) => call_has_widths(call),
+        JournalEntry::Begin { key, bytes } => begin_has_widths(*key, *bytes),
+        JournalEntry::Publish {
             key,
             stamp,
             mask,
             bytes,
         } => publish_has_widths(*key, *stamp, *mask, *bytes),
-        Entry::Enroll { node, loss } => enroll_has_widths(*node, *loss),
-        Entry::Built(part) => part_has_widths(part),
+        JournalEntry::Enroll { node, loss } => enroll_has_widths(*node, *loss),
+        JournalEntry::Built(part) => part_has_widths(part),
     }
 }
 

@@ -4,7 +4,7 @@ ghost use Rattle.std.specs.Prelude.{◌≡◌, ◌++◌, OnOk};
 ghost use Rattle.byteorder.specs.Endian.{little_bytes};
 ghost use Rattle.rz_journal_text.specs.Spelling.{key_bytes, kind_of, entry_fields, entry_bytes, MayStand, IsEntry};
 
-use crate::Entry;
+use crate::JournalEntry;
 use crate::calls::write_call;
 use crate::numbers::{write_key, write_u16, write_u32, write_u64};
 use crate::parts::{part_kind, write_part};
@@ -13,7 +13,7 @@ use rz_events::Key;
 use std::alloc::{AllocError, Global};
 
 /// Adds the bytes of an entry at the end. After want of memory, a part of them may stand there.
-pub fn write(alloc: Global, entry: &Entry, out: &mut Vec<u8>) -> Result<(), AllocError>
+pub fn write(alloc: Global, entry: &JournalEntry, out: &mut Vec<u8>) -> Result<(), AllocError>
     requires { MayStand entry.now }
     ensures bytes { OnOk result (out.new.items ≡ out.old.items ++ entry_bytes entry.now) }
 
@@ -26,34 +26,34 @@ pub fn write(alloc: Global, entry: &Entry, out: &mut Vec<u8>) -> Result<(), Allo
 }
 
 // The kind of an entry.
-fn kind_of(entry: &Entry) -> u8
+fn kind_of(entry: &JournalEntry) -> u8
     ensures { result ≡ kind_of entry.now }
 {
     match entry {
-        Entry::Tree(_) => 1,
-        Entry::Begin { .. } => 2,
-        Entry::Publish { .. } => 3,
-        Entry::Enroll { .. } => 4,
-        Entry::Built(part) => part_kind(part),
+        JournalEntry::Tree(_) => 1,
+        JournalEntry::Begin { .. } => 2,
+        JournalEntry::Publish { .. } => 3,
+        JournalEntry::Enroll { .. } => 4,
+        JournalEntry::Built(part) => part_kind(part),
     }
 }
 
 // Adds the fields of an entry.
-fn write_fields(alloc: Global, entry: &Entry, out: &mut Vec<u8>) -> Result<(), AllocError>
+fn write_fields(alloc: Global, entry: &JournalEntry, out: &mut Vec<u8>) -> Result<(), AllocError>
     requires { MayStand entry.now }
     ensures { OnOk result (out.new.items ≡ out.old.items ++ entry_fields entry.now) }
 {
     match entry {
-        Entry::Tree(call) => write_call(call, out),
-        Entry::Begin { key, bytes } => write_begin(*key, *bytes, out),
-        Entry::Publish {
+        JournalEntry::Tree(call) => write_call(call, out),
+        JournalEntry::Begin { key, bytes } => write_begin(*key, *bytes, out),
+        JournalEntry::Publish {
             key,
             stamp,
             mask,
             bytes,
         } => write_publish(*key, *stamp, *mask, *bytes, out),
-        Entry::Enroll { node, loss } => write_enroll(*node, *loss, out),
-        Entry::Built(part) => write_part(alloc, part, out),
+        JournalEntry::Enroll { node, loss } => write_enroll(*node, *loss, out),
+        JournalEntry::Built(part) => write_part(alloc, part, out),
     }
 }
 

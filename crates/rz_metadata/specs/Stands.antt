@@ -5,7 +5,7 @@ use Rattle.rz_events.specs.declared.export.Call.{Call}
 use Rattle.rz_events.specs.declared.export.Reply.{Reply}
 use Rattle.rz_events.specs.declared.export.Reply.TheVariants.{NoMemory}
 use Rattle.rz_export_model.specs.Export.{Export}
-use Rattle.rz_journal_text.specs.declared.entry.Entry.{Entry}
+use Rattle.rz_journal_text.specs.declared.entry.JournalEntry.{JournalEntry}
 use Rattle.rz_journal.specs.Kept.{IsExportAfter, AllStandFor, AllStandForEither}
 use Rattle.rz_journal.specs.Room.{row_length, needed}
 use Rattle.rz_journal.specs.Said.{entry_of}
@@ -43,7 +43,7 @@ pub record IsJournalKept {D : Type 0} (tells : Bool) (meter : D → Meter) (imag
 
 -- the parts of the export and the entry of a call take more bytes than a half has
 abbrev pub OverfillsHalf : Export → Call → Type 0
-OverfillsHalf s c = (e : Entry) × (entry_of c ≡ Some e) × (8_388_576 < needed s (row_length e))
+OverfillsHalf s c = (e : JournalEntry) × (entry_of c ≡ Some e) × (8_388_576 < needed s (row_length e))
 
 -- There was no reply to one more call. Where the journal did not refuse it, it kept the calls from before. Otherwise each image stands
 -- for those, but where the disk failed also for those and that one; then its count of faults rose. Where it was full, it has the export

@@ -20,12 +20,12 @@ use std::marker::Model;
 
 /// A path with the number of its object.
 #[derive(Drop)]
-pub struct Entry {
+pub struct PathEntry {
     path: Path,
     fid: u128,
 }
 
-impl Model for Entry {
+impl Model for PathEntry {
     ghost use Rattle.std.specs.Prelude.{List, ℕ};
 
     ghost Value = { List (List ℕ) × ℕ };
@@ -33,7 +33,7 @@ impl Model for Entry {
     ghost view = { λ e. (e.path, e.fid) };
 }
 
-impl Mark for Entry {
+impl Mark for PathEntry {
     ghost use Rattle.std.specs.Prelude.{false};
 
     ghost is_marked = { λ _. false };
@@ -43,12 +43,12 @@ impl Mark for Entry {
     }
 }
 
-impl Entry {
+impl PathEntry {
     /// A path with a number.
-    pub fn new(path: Path, fid: u128) -> Entry
+    pub fn new(path: Path, fid: u128) -> PathEntry
         ensures { result ≡ (path, fid) }
     {
-        Entry { path, fid }
+        PathEntry { path, fid }
     }
 
     /// The path.
@@ -74,7 +74,7 @@ impl Entry {
 }
 
 /// How many entries stand before a path.
-pub fn place_of(entries: &Sequence<Entry>, names: &[Text]) -> usize
+pub fn place_of(entries: &Sequence<PathEntry>, names: &[Text]) -> usize
     requires { IsTrue (is_sorted path_cmp entries.now) }
     ensures place { result ≡ run (λ k. is_gt (path_cmp names.now k)) entries.now }
     ensures within { result ≤ length entries.now }
@@ -83,7 +83,7 @@ pub fn place_of(entries: &Sequence<Entry>, names: &[Text]) -> usize
 }
 
 /// How many entries are at most a path, or below it by a name that is not after the given one.
-pub fn place_after(entries: &Sequence<Entry>, names: &[Text], after: Option<&Text>) -> usize
+pub fn place_after(entries: &Sequence<PathEntry>, names: &[Text], after: Option<&Text>) -> usize
     requires { IsTrue (is_sorted path_cmp entries.now) }
     ensures { result ≡ run (is_up_to names.now (option_copied after.entry)) entries.now }
 {
@@ -91,7 +91,7 @@ pub fn place_after(entries: &Sequence<Entry>, names: &[Text], after: Option<&Tex
 }
 
 /// How many entries are at most a path, or begin with it.
-pub fn place_past(entries: &Sequence<Entry>, names: &[Text]) -> usize
+pub fn place_past(entries: &Sequence<PathEntry>, names: &[Text]) -> usize
     requires { IsTrue (is_sorted path_cmp entries.now) }
     ensures place { result ≡ run (is_within names.now) entries.now }
     ensures fits { length entries.now < 2 ^ 64 }
@@ -100,7 +100,7 @@ pub fn place_past(entries: &Sequence<Entry>, names: &[Text]) -> usize
 }
 
 /// How many entries are not after a path.
-pub fn place_above(entries: &Sequence<Entry>, names: &[Text]) -> usize
+pub fn place_above(entries: &Sequence<PathEntry>, names: &[Text]) -> usize
     requires { IsTrue (is_sorted path_cmp entries.now) }
     ensures { result ≡ run (λ k. not (is_lt (path_cmp names.now k))) entries.now }
 {
@@ -108,7 +108,7 @@ pub fn place_above(entries: &Sequence<Entry>, names: &[Text]) -> usize
 }
 
 /// The number at a path.
-pub fn number_at(entries: &Sequence<Entry>, names: &[Text]) -> Option<u128>
+pub fn number_at(entries: &Sequence<PathEntry>, names: &[Text]) -> Option<u128>
     requires { IsTrue (is_sorted path_cmp entries.now) }
     ensures { result ≡ find path_cmp names.now entries.now }
 {
@@ -128,10 +128,10 @@ pub fn number_at(entries: &Sequence<Entry>, names: &[Text]) -> Option<u128>
 /// The entries that begin with a path, with its names changed to those of `to`.
 pub fn moved_entries(
     alloc: Global,
-    entries: &Sequence<Entry>,
+    entries: &Sequence<PathEntry>,
     names: &[Text],
     to: &[Text],
-) -> Result<Sequence<Entry>, AllocError>
+) -> Result<Sequence<PathEntry>, AllocError>
     requires { IsTrue (is_sorted path_cmp entries.now) }
     ensures { IfOk result (λ moved. moved ≡ map (λ e. (to.now ++ drop (length names.now) e.0, e.1)) (where_key path_cmp (begins_with names.now) entries.now)) }
 {
@@ -140,14 +140,14 @@ pub fn moved_entries(
     for at in start..end {
         if let Some(entry) = entries.get(at) {
             let path = Path::joined(alloc, to, entry.names(), names.len())?;
-            push(alloc, &mut moved, Entry::new(path, entry.fid()))?;
+            push(alloc, &mut moved, PathEntry::new(path, entry.fid()))?;
         }
     }
     Ok(moved)
 }
 
 /// Takes the entries out that begin with a path.
-pub fn remove_block(entries: &mut Sequence<Entry>, names: &[Text])
+pub fn remove_block(entries: &mut Sequence<PathEntry>, names: &[Text])
     requires { IsTrue (is_sorted path_cmp entries.old) }
     ensures items { entries.new ≡ where_key path_cmp (λ k. not (begins_with names.now k)) entries.old }
     ensures len { length entries.new + length (where_key path_cmp (begins_with names.now) entries.old) ≡ length entries.old }
@@ -160,7 +160,7 @@ pub fn remove_block(entries: &mut Sequence<Entry>, names: &[Text])
 }
 
 /// Takes the entry of a path out, where there is one.
-pub fn remove_one(entries: &mut Sequence<Entry>, names: &[Text])
+pub fn remove_one(entries: &mut Sequence<PathEntry>, names: &[Text])
     requires { IsTrue (is_sorted path_cmp entries.old) }
     ensures items { entries.new ≡ where_key path_cmp (λ k. not (eq_by_cmp path_cmp names.now k)) entries.old }
     ensures len { length entries.new ≤ length entries.old }
@@ -173,7 +173,7 @@ pub fn remove_one(entries: &mut Sequence<Entry>, names: &[Text])
 }
 
 /// Puts a block of entries in at a place.
-pub fn put_block(entries: &mut Sequence<Entry>, at: usize, block: Sequence<Entry>)
+pub fn put_block(entries: &mut Sequence<PathEntry>, at: usize, block: Sequence<PathEntry>)
     requires place { at ≤ length entries.old }
     requires fits { length entries.old + length block < 2 ^ 64 }
     ensures { entries.new ≡ take at entries.old ++ (block ++ drop at entries.old) }
@@ -184,7 +184,11 @@ pub fn put_block(entries: &mut Sequence<Entry>, at: usize, block: Sequence<Entry
 }
 
 // Adds an entry behind all others.
-fn push(alloc: Global, entries: &mut Sequence<Entry>, entry: Entry) -> Result<(), AllocError>
+fn push(
+    alloc: Global,
+    entries: &mut Sequence<PathEntry>,
+    entry: PathEntry,
+) -> Result<(), AllocError>
     ensures { OnOk result (entries.new ≡ entries.old ++ entry ∷ []) }
 {
     let count = entries.len();
@@ -192,7 +196,7 @@ fn push(alloc: Global, entries: &mut Sequence<Entry>, entry: Entry) -> Result<()
 }
 
 // How many entries have paths before a cut.
-fn place(entries: &Sequence<Entry>, cut: &PathCut<'_>) -> usize
+fn place(entries: &Sequence<PathEntry>, cut: &PathCut<'_>) -> usize
     requires { IsTrue (is_sorted path_cmp entries.now) }
     ensures place { result ≡ run (passes cut.now) entries.now }
     ensures fits { length entries.now < 2 ^ 64 }
@@ -212,7 +216,7 @@ fn place(entries: &Sequence<Entry>, cut: &PathCut<'_>) -> usize
 }
 
 // From where to where the entries stand that begin with a path.
-fn block_bounds(entries: &Sequence<Entry>, names: &[Text]) -> (usize, usize)
+fn block_bounds(entries: &Sequence<PathEntry>, names: &[Text]) -> (usize, usize)
     requires { IsTrue (is_sorted path_cmp entries.now) }
     ensures order { result.0 ≤ result.1 }
     ensures within { result.1 ≤ length entries.now }

@@ -10,8 +10,8 @@ ghost use Rattle.rz_names.specs.Names.{root_alone, next_name, entry_after, below
 
 use crate::Path;
 use crate::entries::{
-    Entry, moved_entries, number_at, place_above, place_after, place_of, put_block, remove_block,
-    remove_one,
+    PathEntry, moved_entries, number_at, place_above, place_after, place_of, put_block,
+    remove_block, remove_one,
 };
 use crate::order::starts_with;
 use rz_events::Text;
@@ -29,7 +29,7 @@ const ROOT: u128 = 0;
 #[derive(Drop)]
 pub struct NameMap {
     alloc: Global,
-    entries: Sequence<Entry>,
+    entries: Sequence<PathEntry>,
 }
 
 impl Model for NameMap {
@@ -96,7 +96,8 @@ impl NameMap {
     {
         let at = place_of(&self.entries, path.names());
         let path = path.copy(self.alloc)?;
-        self.entries.insert(self.alloc, at, Entry::new(path, fid))?;
+        self.entries
+            .insert(self.alloc, at, PathEntry::new(path, fid))?;
         Ok(())
     }
 

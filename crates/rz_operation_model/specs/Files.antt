@@ -18,30 +18,30 @@ use Rattle.rz_client_model.specs.declared.reading.ReaderState.{ReaderState}
 use Rattle.rz_client_model.specs.declared.writing.WriterState.{WriterState}
 use Rattle.rz_client_model.specs.Read.{reader_start, reader_ask, reader_told, reader_end, IsReaderAnswer}
 use Rattle.rz_client_model.specs.Write.{writer_start, writer_ask, writer_told, writer_end, IsWriterAnswer}
-use Rattle.rz_operation_model.specs.Ranges.{Aim, Taking, Giving, Range, key_in, start_in, count_in, is_whole, passed, cut, patched}
+use Rattle.rz_operation_model.specs.Ranges.{Aim, Taking, Giving, RangeState, key_in, start_in, count_in, is_whole, passed, cut, patched}
 
 pub data FileState : Type 0 where
   -- the block in hand is read
-  Reads : Range → ReaderState → FileState
+  Reads : RangeState → ReaderState → FileState
   -- it is written with this text
-  Writes : Range → (text : List ℕ) → WriterState → FileState
+  Writes : RangeState → (text : List ℕ) → WriterState → FileState
   -- the range has come to its end, or as far as it goes
-  Ended : Range → FileEnd → FileState
+  Ended : RangeState → FileEnd → FileState
 
 -- The next block.
 
-abbrev pub reads_block : Layout → Range → FileState
+abbrev pub reads_block : Layout → RangeState → FileState
 reads_block layout r = Reads r (reader_start layout (key_in layout r) r.info.places)
 
-abbrev pub writes_block : Layout → Range → List ℕ → FileState
+abbrev pub writes_block : Layout → RangeState → List ℕ → FileState
 writes_block layout r text = Writes r text (writer_start layout (key_in layout r) r.info.places (length text))
 
-abbrev pub next_block : Layout → Range → Aim → FileState
+abbrev pub next_block : Layout → RangeState → Aim → FileState
 next_block layout r (Taking bytes) = reads_block layout r
 next_block layout r (Giving bytes) = cond (is_whole layout r)
     (writes_block layout r (cut r.done (count_in layout r) bytes)) (reads_block layout r)
 
-abbrev pub go_on : Layout → Range → FileState
+abbrev pub go_on : Layout → RangeState → FileState
 go_on layout r = cond (r.done == r.size) (Ended r (end.Whole r.done)) (next_block layout r r.aim)
 
 -- The beginning.
@@ -73,28 +73,28 @@ file_ask (Ended r end) = ask.End
 -- The state after an answer.
 
 -- the block in hand was found with this text, or is a hole, which is the empty text
-abbrev pub with_text : Layout → Range → List ℕ → Aim → FileState
+abbrev pub with_text : Layout → RangeState → List ℕ → Aim → FileState
 with_text layout r text (Taking bytes) =
     go_on layout (passed layout r (Taking (bytes ++ cut (start_in layout r) (count_in layout r) text)))
 with_text layout r text (Giving bytes) =
     writes_block layout r (patched (start_in layout r) (cut r.done (count_in layout r) bytes) text)
 
 -- the range goes on where its block was found, here with this text, or is a hole
-abbrev pub after_part : Layout → Range → List ℕ → ReadMark → FileState
+abbrev pub after_part : Layout → RangeState → List ℕ → ReadMark → FileState
 after_part layout r text (mark.Found stamp length) = with_text layout r text r.aim
 after_part layout r text mark.Hole = with_text layout r [] r.aim
 after_part layout r text mark = Ended r (end.ShortRead r.done mark)
 
 -- it goes on where its block is acknowledged
-abbrev pub after_block : Layout → Range → WriteEnd → FileState
+abbrev pub after_block : Layout → RangeState → WriteEnd → FileState
 after_block layout r (write.Acked stamp mask) = go_on layout (passed layout r r.aim)
 after_block layout r cause = Ended r (end.ShortWrite r.done cause)
 
-abbrev pub after_read_part : Layout → Range → ReaderState → List ℕ → Option ReadMark → FileState
+abbrev pub after_read_part : Layout → RangeState → ReaderState → List ℕ → Option ReadMark → FileState
 after_read_part layout r s text None = Reads r s
 after_read_part layout r s text (Some mark) = after_part layout r text mark
 
-abbrev pub after_written_block : Layout → Range → List ℕ → WriterState → Option WriteEnd → FileState
+abbrev pub after_written_block : Layout → RangeState → List ℕ → WriterState → Option WriteEnd → FileState
 after_written_block layout r text s None = Writes r text s
 after_written_block layout r text s (Some cause) = after_block layout r cause
 

@@ -19,7 +19,7 @@ pub data Aim : Type 0 where
   Giving : List ℕ → Aim
 
 -- so many bytes of the range are done; the next one lies in the block in hand
-pub record Range : Type 0 where
+pub record RangeState : Type 0 where
   pub info : FileInfo
   pub offset : ℕ
   pub size : ℕ
@@ -28,23 +28,23 @@ pub record Range : Type 0 where
 
 -- The block in hand.
 
-abbrev pub key_in : Layout → Range → Key
+abbrev pub key_in : Layout → RangeState → Key
 key_in layout r = record { fid = r.info.fid; block = (r.offset + r.done) / block_bytes_of layout }
 
 -- where in it the range goes on
-abbrev pub start_in : Layout → Range → ℕ
+abbrev pub start_in : Layout → RangeState → ℕ
 start_in layout r = (r.offset + r.done) % block_bytes_of layout
 
 -- so many bytes of the range lie in it
-abbrev pub count_in : Layout → Range → ℕ
+abbrev pub count_in : Layout → RangeState → ℕ
 count_in layout r = min (block_bytes_of layout - start_in layout r) (r.size - r.done)
 
 -- the range covers it whole
-abbrev pub is_whole : Layout → Range → Bool
+abbrev pub is_whole : Layout → RangeState → Bool
 is_whole layout r = (start_in layout r == 0) && (count_in layout r == block_bytes_of layout)
 
 -- the range where the block in hand is done
-abbrev pub passed : Layout → Range → Aim → Range
+abbrev pub passed : Layout → RangeState → Aim → RangeState
 passed layout r aim = record r { done = r.done + count_in layout r; aim = aim }
 
 -- Texts of blocks.

@@ -4,7 +4,7 @@ use Rattle.rz_events.specs.declared.tree.TreeCall.{TreeCall}
 use Rattle.rz_events.specs.declared.events.Answer.{Answer}
 use Rattle.rz_client_model.specs.declared.reading.ReaderState.{ReaderState}
 use Rattle.rz_client_model.specs.declared.writing.WriterState.{WriterState}
-use Rattle.rz_operation_model.specs.Ranges.{Range}
+use Rattle.rz_operation_model.specs.Ranges.{RangeState}
 use Rattle.rz_operation_model.specs.Rebuild.{RebuildState}
 
 -- a block is written or read
@@ -25,7 +25,7 @@ pub data Plan : Type 0 where
 -- the block in hand is the whole operation, or it is one of a range
 pub data Course : Type 0 where
   Alone : Course
-  Within : Range → Course
+  Within : RangeState → Course
 
 pub data Work : Type 0 where
   -- one call on names

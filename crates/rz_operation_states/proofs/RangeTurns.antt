@@ -25,7 +25,7 @@ use Rattle.rz_client_model.specs.declared.writing.WriterState.{WriterState}
 use Rattle.rz_client_model.specs.Read.{reader_ask, reader_end}
 use Rattle.rz_client_model.specs.Write.{writer_ask, writer_end}
 use Rattle.rz_reader.specs.Machine.{AreFitting}
-use Rattle.rz_operation_model.specs.Ranges.{Range}
+use Rattle.rz_operation_model.specs.Ranges.{RangeState}
 use Rattle.rz_operation_model.specs.Files.{FileState, Reads, Writes, Ended, ask_to_read, ask_to_write, after_part, after_written_block, file_ask, file_told}
 use Rattle.rz_operation_model.specs.Work.{RangePlan, WriteBytes, ReadBytes, Within, Reading, Writing}
 use Rattle.rz_operation_model.specs.Ask.{ask_of}
@@ -108,13 +108,13 @@ given (Some a) = a
 
 -- A reply of the export.
 
-reads-replied : (layout : Layout) (found : List ℕ) (r : Range) (s : ReaderState) (x : Reply) (a : FileAnswer) → as_read (read_answer x) ≡ Some a →
+reads-replied : (layout : Layout) (found : List ℕ) (r : RangeState) (s : ReaderState) (x : Reply) (a : FileAnswer) → as_read (read_answer x) ≡ Some a →
     Reading (Within r) (reader_after s (Replied x)) ≡ in_range (file_told layout true found (Reads r s) a)
 reads-replied layout found r s (reply.Looked p) a is = ap (λ y. in_range (file_told layout true found (Reads r s) y)) (ap given is)
 reads-replied layout found r s (reply.Denied why) a is = ap (λ y. in_range (file_told layout true found (Reads r s) y)) (ap given is)
 reads-replied layout found r s (_) a is = cc
 
-writes-replied : (layout : Layout) (found : List ℕ) (r : Range) (text : List ℕ) (s : WriterState) (x : Reply) (a : FileAnswer) → as_write (write_answer x) ≡ Some a →
+writes-replied : (layout : Layout) (found : List ℕ) (r : RangeState) (text : List ℕ) (s : WriterState) (x : Reply) (a : FileAnswer) → as_write (write_answer x) ≡ Some a →
     Writing (Within r) text (writer_after s (Replied x)) ≡ in_range (file_told layout true found (Writes r text s) a)
 writes-replied layout found r text s (reply.Begun stamp base) a is = ap (λ y. in_range (file_told layout true found (Writes r text s) y)) (ap given is)
 writes-replied layout found r text s (reply.Denied why) a is = ap (λ y. in_range (file_told layout true found (Writes r text s) y)) (ap given is)
@@ -210,7 +210,7 @@ module _ (file new_file : FileMachine) (bins : List ℕ) where
 
     -- A lost message.
 
-    read-missed : (found : List ℕ) (r : Range) (s : ReaderState) (at : ReadStage) → MayMiss (ask_of file.layout (in_range (Reads r (record s { stage = at })))) →
+    read-missed : (found : List ℕ) (r : RangeState) (s : ReaderState) (at : ReadStage) → MayMiss (ask_of file.layout (in_range (Reads r (record s { stage = at })))) →
         told file.layout (in_range (Reads r (record s { stage = at }))) Missed ≡ in_range (file_told file.layout true found (Reads r (record s { stage = at })) (range_miss (Reads r (record s { stage = at }))))
     read-missed found r s reading.Looking may = absurd may
     read-missed found r s (reading.Fetching t) may = refl
@@ -244,7 +244,7 @@ module _ (file new_file : FileMachine) (bins : List ℕ) where
     same-text (mark.Denied why) block = refl
     same-text (mark.Moved was now) block = refl
 
-    read-noted : (block : Option Grid) (r : Range) (s : ReaderState) (at : ReadStage) →
+    read-noted : (block : Option Grid) (r : RangeState) (s : ReaderState) (at : ReadStage) →
         told file.layout (in_range (Reads r (record s { stage = at }))) (Noted (text_asked block (ask_of file.layout (in_range (Reads r (record s { stage = at }))))))
         ≡ in_range (file_told file.layout true (text_in (Reads r (record s { stage = at })) block) (Reads r (record s { stage = at })) files.Noted)
     read-noted block r s reading.Looking = refl

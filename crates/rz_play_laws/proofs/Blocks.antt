@@ -20,7 +20,7 @@ use Rattle.std.specs.List.{AllByRecursion}
 use Rattle.rz_core.specs.NodeRows.{IsNodeOf}
 use Rattle.rz_core.specs.Own.{IsOpen}
 use Rattle.rz_core.proofs.Extends.{Extends}
-use Rattle.rz_operation_model.specs.Ranges.{Range, Aim, Taking, Giving, start_in, count_in, is_whole, cut, patched, passed}
+use Rattle.rz_operation_model.specs.Ranges.{RangeState, Aim, Taking, Giving, start_in, count_in, is_whole, cut, patched, passed}
 use Rattle.rz_operation_model.specs.Work.{Course, Alone, Within}
 use Rattle.rz_operation_model.specs.Ask.{is_part}
 use Rattle.rz_events.specs.declared.machines.FileEnd.TheVariants as end
@@ -43,7 +43,7 @@ long-cut start count text = let l = length-take count (drop start text ++ replic
 pub block-some : (y : Layout) → 0 < block_bytes_of y
 block-some y = grind arith
 
-in-block : (y : Layout) (r : Range) → start_in y r + count_in y r ≤ block_bytes_of y
+in-block : (y : Layout) (r : RangeState) → start_in y r + count_in y r ≤ block_bytes_of y
 in-block y r = let m = mod-lt (r.offset + r.done) (block-some y) in omega (arith, m)
 
 long-patched : (start : ℕ) (bytes text : List ℕ) (most : ℕ) → start + length bytes ≤ most → length text ≤ most → length (patched start bytes text) ≤ most
@@ -56,13 +56,13 @@ long-patched start bytes text most low short =
     omega (arith, c, a, b, d, low, short)
 
 module _ (v : Volume) (g : Facts) (o run : List Event) (by : Actor) (going : IsOpen run) where
-  reads : (r : Range) → IsPlacing v g r.info.fid r.info.places → IsOwnOf v g o run by (in_range (reads_block v.layout r))
+  reads : (r : RangeState) → IsPlacing v g r.info.fid r.info.places → IsOwnOf v g o run by (in_range (reads_block v.layout r))
   reads r placing = (going, record { layout_is = refl; placing = placing; stage = tt }, placing)
 
-  writes : (r : Range) → IsPlacing v g r.info.fid r.info.places → (text : List ℕ) → length text ≤ block_bytes_of v.layout → IsOwnOf v g o run by (in_range (writes_block v.layout r text))
+  writes : (r : RangeState) → IsPlacing v g r.info.fid r.info.places → (text : List ℕ) → length text ≤ block_bytes_of v.layout → IsOwnOf v g o run by (in_range (writes_block v.layout r text))
   writes r placing text short = (going, record { layout_is = refl; placing = placing; size = refl; short = short; stage = tt }, placing)
 
-  next : (r : Range) → IsPlacing v g r.info.fid r.info.places → (aim : Aim) → IsOwnOf v g o run by (in_range (next_block v.layout r aim))
+  next : (r : RangeState) → IsPlacing v g r.info.fid r.info.places → (aim : Aim) → IsOwnOf v g o run by (in_range (next_block v.layout r aim))
   next r placing (Taking bytes) = reads r placing
   next r placing (Giving bytes) = go (is_whole v.layout r)
     where
@@ -70,7 +70,7 @@ module _ (v : Volume) (g : Facts) (o run : List Event) (by : Actor) (going : IsO
       go true = writes r placing (cut r.done (count_in v.layout r) bytes) (let l = long-cut r.done (count_in v.layout r) bytes in let b = in-block v.layout r in omega (arith, l, b))
       go false = reads r placing
 
-  pub goes-on : (r : Range) → IsPlacing v g r.info.fid r.info.places → IsOwnOf v g o run by (in_range (go_on v.layout r))
+  pub goes-on : (r : RangeState) → IsPlacing v g r.info.fid r.info.places → IsOwnOf v g o run by (in_range (go_on v.layout r))
   goes-on r placing = go (r.done == r.size)
     where
       go : (b : Bool) → IsOwnOf v g o run by (in_range (cond b (Ended r (end.Whole r.done)) (next_block v.layout r r.aim)))
@@ -85,7 +85,7 @@ after-gave v f g ext o run by number key (Within r) is (write.Acked stamp mask) 
     goes-on v g (x ∷ o) (x ∷ run) by refl (passed v.layout r r.aim) (placing-more v f g ext r.info.fid r.info.places is)
 after-gave v f g ext o run by number key (Within r) is (_) = tt
 
-with-text : (v : Volume) (g : Facts) (o run : List Event) (by : Actor) → IsOpen run → (r : Range) → IsPlacing v g r.info.fid r.info.places → (text : List ℕ) → length text ≤ block_bytes_of v.layout
+with-text : (v : Volume) (g : Facts) (o run : List Event) (by : Actor) → IsOpen run → (r : RangeState) → IsPlacing v g r.info.fid r.info.places → (text : List ℕ) → length text ≤ block_bytes_of v.layout
     → (aim : Aim) → IsOwnOf v g o run by (in_range (with_text v.layout r text aim))
 with-text v g o run by going r placing text short (Taking bytes) =
     goes-on v g o run by going (passed v.layout r (Taking (bytes ++ cut (start_in v.layout r) (count_in v.layout r) text))) placing

@@ -17,7 +17,7 @@ use Rattle.rz_core.specs.Own.{last, since, is_begin}
 use Rattle.rz_core.specs.Outcomes.{whys, why_at, is_failure}
 use Rattle.rz_core.proofs.Extends.{Extends}
 use Rattle.rz_client_model.specs.declared.writing.WriteStage.TheVariants as writing
-use Rattle.rz_client_model.specs.declared.writing.Sent.{Sent}
+use Rattle.rz_client_model.specs.declared.writing.SentRecords.{SentRecords}
 use Rattle.rz_client_model.specs.Write.{is_kept, after_keep, unless_too_few, after_enrolled}
 use Rattle.rz_play_laws.specs.Own.{IsPlacing, IsSending, IsWriteStage}
 use Rattle.rz_client_model.proofs.Masks.{forward-less}
@@ -31,7 +31,7 @@ kept-no-failure (_) is = cc
 
 -- Position p of the write has the outcome w by the events xs, which begin no write; `kept` and `failed` are the counts then.
 module _ (v : Volume) (f g : Facts) (ext : Extends f g) (xs o : List Event) (by : Actor) (key : Key) (places text : List ℕ)
-    (placing : IsPlacing v f key.fid places) (t : Sent) (h : IsSending v f o by key places text t)
+    (placing : IsPlacing v f key.fid places) (t : SentRecords) (h : IsSending v f o by key places text t)
     (none : last is_begin (xs ++ o) ≡ last is_begin o) (later : since is_begin (xs ++ o) ≡ xs ++ since is_begin o)
     (p : ℕ) (w : Why) (low : p < length places)
     (here : (n : ℕ) → slice_get places p ≡ Some n → why_at key t.stamp p n (xs ++ since is_begin o) ≡ w)
@@ -101,7 +101,7 @@ module _ (v : Volume) (f g : Facts) (ext : Extends f g) (xs o : List Event) (by 
       → IsWriteStage v g (xs ++ o) by key places text (unless_too_few v.layout (record t { kept = kept; failed = failed; why = set t.why p w }))
   failed_stage kept failed kept_is failed_is ahead few = go (nat_lt (safe_of v.layout - forward_of v.layout) failed) refl
     where
-      next : Sent
+      next : SentRecords
       next = record t { kept = kept; failed = failed; why = set t.why p w }
 
       go : (b : Bool) → nat_lt (safe_of v.layout - forward_of v.layout) failed ≡ b
@@ -144,7 +144,7 @@ module _ (v : Volume) (f g : Facts) (ext : Extends f g) (xs o : List Event) (by 
           let k = h.kept_is in
           let n = h.failed_is in
           let s = h.spare in
-          let new : Sent = record t { kept = t.kept + 1; why = set t.why (t.kept + t.failed) w } in
+          let new : SentRecords = record t { kept = t.kept + 1; why = set t.why (t.kept + t.failed) w } in
           subst (λ c. IsWriteStage v g (xs ++ o) by key places text (cond c (writing.Sending new) (unless_too_few v.layout (record t { failed = t.failed + 1; why = set t.why (t.kept + t.failed) w })))) (sym is)
           (subst (λ (ws : List Why). IsSending v g (xs ++ o) by key places text (record t { kept = t.kept + 1; why = ws })) (sym at_p)
           (goes_on (t.kept + 1) t.failed (omega (arith, kept, k)) (omega (arith, failed, n)) (λ q far. ahead q (omega (arith, far))) (omega (arith, more)) s))
@@ -154,7 +154,7 @@ module _ (v : Volume) (f g : Facts) (ext : Extends f g) (xs o : List Event) (by 
           let k = h.kept_is in
           let n = h.failed_is in
           let few = h.few in
-          let new : Sent = record t { kept = t.kept + 1; why = set t.why (t.kept + t.failed) w } in
+          let new : SentRecords = record t { kept = t.kept + 1; why = set t.why (t.kept + t.failed) w } in
           subst (λ c. IsWriteStage v g (xs ++ o) by key places text (cond c (writing.Sending new) (unless_too_few v.layout (record t { failed = t.failed + 1; why = set t.why (t.kept + t.failed) w })))) (sym is)
           (subst (λ (ws : List Why). IsWriteStage v g (xs ++ o) by key places text (unless_too_few v.layout (record t { failed = t.failed + 1; why = ws }))) (sym at_p)
           (failed_stage t.kept (t.failed + 1) (omega (arith, kept, k)) (omega (arith, failed, n)) (λ q far. ahead q (omega (arith, far))) few))

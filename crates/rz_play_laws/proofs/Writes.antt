@@ -38,7 +38,7 @@ use Rattle.rz_core.proofs.Stamps.{same_key-refl}
 use Rattle.rz_client_model.specs.declared.writing.WriterState.{WriterState}
 use Rattle.rz_client_model.specs.declared.writing.WriteStage.{WriteStage}
 use Rattle.rz_client_model.specs.declared.writing.WriteStage.TheVariants as writing
-use Rattle.rz_client_model.specs.declared.writing.Sent.{Sent}
+use Rattle.rz_client_model.specs.declared.writing.SentRecords.{SentRecords}
 use Rattle.rz_client_model.specs.Write.{is_kept, why_of, mask_of, none_sent, next_position, after_keep, after_enrolled, writer_ask}
 use Rattle.rz_operation_model.specs.Work.{Course, Writing}
 use Rattle.rz_operation_model.specs.Ask.{AskNode, SayGave, is_part, ask_of, write_asks, head_of}
@@ -101,7 +101,7 @@ module _ (v : Volume) (f g : Facts) (ext : Extends f g) (o run : List Event) (by
 
   -- Keeps.
 
-  module _ (t : Sent) (h : IsSending v f o by key places text t) where
+  module _ (t : SentRecords) (h : IsSending v f o by key places text t) where
     abbrev at : ℕ
     at = next_position t
 
@@ -240,7 +240,7 @@ module _ (v : Volume) (f : Facts) (o run : List Event) (by : Actor) (key : Key) 
   abbrev state_at : WriteStage → WriterState
   state_at stage = record { layout = v.layout; key = key; places = places; length = size; stage = stage }
 
-  module _ (t : Sent) (h : IsSending v f o by key places text t) where
+  module _ (t : SentRecords) (h : IsSending v f o by key places text t) where
     abbrev asked_at : ℕ
     asked_at = next_position t
 
@@ -287,7 +287,7 @@ module _ (v : Volume) (f : Facts) (o run : List Event) (by : Actor) (key : Key) 
       long,
     )
 
-  sending-proper : (number : ℕ) → IsOpen run → (t : Sent) → IsSending v f o by key places text t → (b : Bool) → nat_lt t.kept (forward_of v.layout) ≡ b
+  sending-proper : (number : ℕ) → IsOpen run → (t : SentRecords) → IsSending v f o by key places text t → (b : Bool) → nat_lt t.kept (forward_of v.layout) ≡ b
       → IsProper v f o run by number (write_asks (is_part course) text (state_at (writing.Sending t)) (cond b (asks.Keep (next_position t) (slice_index places (next_position t)) t.stamp t.base) (asks.Publish t.stamp (mask_of t.why))))
   sending-proper number going t h true is = keep-proper t h going (ltb-true t.kept (forward_of v.layout) is) number
   sending-proper number going t h false is = publish-proper t h (ltb-false t.kept (forward_of v.layout) is)

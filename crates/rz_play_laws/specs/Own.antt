@@ -40,7 +40,7 @@ use Rattle.rz_client_model.specs.declared.reading.Fetches.{Fetches}
 use Rattle.rz_client_model.specs.declared.writing.WriterState.{WriterState}
 use Rattle.rz_client_model.specs.declared.writing.WriteStage.{WriteStage}
 use Rattle.rz_client_model.specs.declared.writing.WriteStage.TheVariants as writing
-use Rattle.rz_client_model.specs.declared.writing.Sent.{Sent}
+use Rattle.rz_client_model.specs.declared.writing.SentRecords.{SentRecords}
 use Rattle.rz_client_model.specs.Write.{is_kept}
 use Rattle.rz_operation_model.specs.Work.{Work, Plan, OnBlock, PutBlock, Course, Alone, Within, Calling, Dropping, Opening, Locking, Writing, Reading, Rebuilding, Ending, Over}
 use Rattle.rz_operation_model.specs.Rebuild.{RebuildState, Tally, Probing, Enrolling, Replacing, Listing, Copying, Refilling, Leaving, position_of}
@@ -110,7 +110,7 @@ IsProper v f o run by number Rest = Unit {0}
 -- The write of a block.
 
 -- records were sent: each outcome is the one that the events since the begin say
-pub record IsSending (v : Volume) (f : Facts) (o : List Event) (by : Actor) (key : Key) (places text : List ℕ) (t : Sent) : Type 0 where
+pub record IsSending (v : Volume) (f : Facts) (o : List Event) (by : Actor) (key : Key) (places text : List ℕ) (t : SentRecords) : Type 0 where
   pub begun : last is_begin o ≡ Some (e.Begin by key t.stamp t.base text)
   pub wrote : f.wrote t.stamp ≡ Some (record { by = by; key = key; base = t.base; text = text })
   pub why_is : t.why ≡ whys key t.stamp (since is_begin o) 0 places

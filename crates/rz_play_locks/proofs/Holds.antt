@@ -23,7 +23,7 @@ use Rattle.rz_core.proofs.Stamps.{same_key-refl}
 use Rattle.rz_client_model.specs.declared.reading.ReaderState.{ReaderState}
 use Rattle.rz_client_model.specs.declared.writing.WriterState.{WriterState}
 use Rattle.rz_events.specs.declared.operations.Operation.{Operation}
-use Rattle.rz_operation_model.specs.Ranges.{Range, Aim, Taking, Giving, count_in, passed, cut, is_whole}
+use Rattle.rz_operation_model.specs.Ranges.{RangeState, Aim, Taking, Giving, count_in, passed, cut, is_whole}
 use Rattle.rz_operation_model.specs.Work.{Work, Plan, OnBlock, OnRange, BlockPlan, RangePlan, PutBlock, GetBlock, WriteBytes, ReadBytes, Course, Calling, Dropping, Opening, Locking, Writing, Reading, Over}
 use Rattle.rz_events.specs.declared.machines.FileEnd.TheVariants as end
 use Rattle.rz_operation_model.specs.Files.{Ended as FileEnded, next_block, go_on, with_text, after_part, after_block, reads_block, writes_block}
@@ -59,7 +59,7 @@ module _ (layout : Layout) (op : Operation) (lock : Option Lock) where
   L work = Later layout op lock work
 
   -- a range goes on
-  pub go-later : (r : Range) (path : List ℕ) (plan : RangePlan) → IsPlanLocked layout op lock path plan r.info.fid → OfPlan plan r → r.done ≤ r.size → (r.done < r.size → IsAligned layout r) → L (in_range (go_on layout r))
+  pub go-later : (r : RangeState) (path : List ℕ) (plan : RangePlan) → IsPlanLocked layout op lock path plan r.info.fid → OfPlan plan r → r.done ≤ r.size → (r.done < r.size → IsAligned layout r) → L (in_range (go_on layout r))
   go-later r path plan held range low aligned = go (r.done == r.size) refl
     where
       block : r.done < r.size → (aim : Aim) → r.aim ≡ aim → L (in_range (next_block layout r aim))
@@ -75,11 +75,11 @@ module _ (layout : Layout) (op : Operation) (lock : Option Lock) where
       go false is = let apart = eqb-false r.done r.size is in block (omega (arith, low, apart)) r.aim refl
 
   -- the range after the block in hand
-  passed-plan : (r : Range) (aim : Aim) (plan : RangePlan) → OfPlan plan r → ((bytes : List ℕ) → r.aim ≡ Giving bytes → aim ≡ Giving bytes) → (IsTaking r.aim → IsTaking aim) → OfPlan plan (passed layout r aim)
+  passed-plan : (r : RangeState) (aim : Aim) (plan : RangePlan) → OfPlan plan r → ((bytes : List ℕ) → r.aim ≡ Giving bytes → aim ≡ Giving bytes) → (IsTaking r.aim → IsTaking aim) → OfPlan plan (passed layout r aim)
   passed-plan r aim (WriteBytes offset bytes) is giving taking = (is.0, is.1, giving bytes is.2)
   passed-plan r aim (ReadBytes offset count) is giving taking = (is.0, is.1, taking is.2)
 
-  passed-low : (r : Range) (aim : Aim) → r.done < r.size → (passed layout r aim).done ≤ (passed layout r aim).size
+  passed-low : (r : RangeState) (aim : Aim) → r.done < r.size → (passed layout r aim).done ≤ (passed layout r aim).size
   passed-low r aim left = low (count_in layout r) (few _ (r.size - r.done))
     where
       few : (a b : ℕ) → min a b ≤ b
@@ -88,22 +88,22 @@ module _ (layout : Layout) (op : Operation) (lock : Option Lock) where
       low : (count : ℕ) → count ≤ r.size - r.done → r.done + count ≤ r.size
       low count most = omega (arith, most, left)
 
-  passed-later : (r : Range) (aim : Aim) (key : Key) → IsRange layout op lock r key → ((bytes : List ℕ) → r.aim ≡ Giving bytes → aim ≡ Giving bytes) → (IsTaking r.aim → IsTaking aim)
+  passed-later : (r : RangeState) (aim : Aim) (key : Key) → IsRange layout op lock r key → ((bytes : List ℕ) → r.aim ≡ Giving bytes → aim ≡ Giving bytes) → (IsTaking r.aim → IsTaking aim)
       → L (in_range (go_on layout (passed layout r aim)))
   passed-later r aim key is giving taking =
       go-later (passed layout r aim) is.path is.plan is.held (passed-plan r aim is.plan is.range giving taking) (passed-low r aim is.left) (passed-aligned layout r aim)
 
   -- the block in hand was found, or is a hole
-  text-later : (r : Range) (text : List ℕ) (key : Key) → IsRange layout op lock r key → (aim : Aim) → r.aim ≡ aim → L (in_range (with_text layout r text aim))
+  text-later : (r : RangeState) (text : List ℕ) (key : Key) → IsRange layout op lock r key → (aim : Aim) → r.aim ≡ aim → L (in_range (with_text layout r text aim))
   text-later r text key is (Taking bytes) aim_is = passed-later r (Taking _) key is (λ b given. cc) (λ k. tt)
   text-later r text key is (Giving bytes) aim_is = (record { path = is.path; plan = is.plan; held = is.held; range = is.range; left = is.left; aligned = is.aligned; key_is = refl }, subst IsToGive (sym aim_is) tt)
 
-  pub part-later : (r : Range) (text : List ℕ) (key : Key) → IsRange layout op lock r key → (m : ReadMark) → L (in_range (after_part layout r text m))
+  pub part-later : (r : RangeState) (text : List ℕ) (key : Key) → IsRange layout op lock r key → (m : ReadMark) → L (in_range (after_part layout r text m))
   part-later r text key is (mark.Found stamp size) = text-later r text key is r.aim refl
   part-later r text key is mark.Hole = text-later r [] key is r.aim refl
   part-later r text key is (_) = tt
 
-  pub block-later : (r : Range) (key : Key) → IsRange layout op lock r key → (end : WriteEnd) → L (in_range (after_block layout r end))
+  pub block-later : (r : RangeState) (key : Key) → IsRange layout op lock r key → (end : WriteEnd) → L (in_range (after_block layout r end))
   block-later r key is (write.Acked stamp mask) = passed-later r r.aim key is (λ b given. given) (λ k. k)
   block-later r key is (_) = tt
 

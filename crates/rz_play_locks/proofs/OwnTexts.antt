@@ -45,13 +45,13 @@ use Rattle.rz_client_model.specs.declared.reading.Fetches.{Fetches}
 use Rattle.rz_client_model.specs.declared.writing.WriterState.{WriterState}
 use Rattle.rz_client_model.specs.declared.writing.WriteStage.{WriteStage}
 use Rattle.rz_client_model.specs.declared.writing.WriteStage.TheVariants as writing
-use Rattle.rz_client_model.specs.declared.writing.Sent.{Sent}
+use Rattle.rz_client_model.specs.declared.writing.SentRecords.{SentRecords}
 use Rattle.rz_client_model.specs.Read.{next_position as next_read, after_fetch, unless_enough, with_record, with_seen, reader_end}
 use Rattle.rz_client_model.specs.Write.{mask_of, next_position, writer_end}
 use Rattle.rz_events.specs.Masks.{stamp_told}
 use Rattle.rz_events.specs.declared.operations.Operation.{Operation}
 use Rattle.rz_events.specs.declared.operations.Operation.TheVariants as operation
-use Rattle.rz_operation_model.specs.Ranges.{Range, Aim, Taking, Giving, key_in, start_in, count_in, passed, cut, patched, is_whole, bytes_of}
+use Rattle.rz_operation_model.specs.Ranges.{RangeState, Aim, Taking, Giving, key_in, start_in, count_in, passed, cut, patched, is_whole, bytes_of}
 use Rattle.rz_operation_model.specs.Work.{Work, Plan, RangePlan, WriteBytes, ReadBytes, Alone, Within, Calling, Dropping, Opening, Locking, Writing, Reading, Rebuilding, Ending, Over}
 use Rattle.rz_operation_model.specs.Steps.{Told, Replied, Locked, Answered, Missed, Noted, begun, told, in_range, range_planned, in_rebuild, rebuild_after, drop_at, said_reading, said_writing, after_call, writer_after}
 use Rattle.rz_operation_model.specs.Ask.{Ask, Say, SayGot, ask_of, head_of}
@@ -77,11 +77,11 @@ update-locks (Some (_)) is = absurd is
 update-locks None is = absurd is
 
 -- The bytes of an update's range are those of the update.
-pub record IsOfUpdate (layout : Layout) (op : Operation) (r : Range) (bytes : List ℕ) : Type 0 where
+pub record IsOfUpdate (layout : Layout) (op : Operation) (r : RangeState) (bytes : List ℕ) : Type 0 where
   pub size_is : r.size ≡ length bytes
   pub updated : (block : ℕ) (old new : List ℕ) → new ≡ with_bytes layout r.offset block bytes old → IsUpdated layout (Some op) block old new
 
-pub of-update : (layout : Layout) (op : Operation) (lock : Option Lock) (path : List ℕ) (plan : RangePlan) (r : Range) (bytes : List ℕ) → IsUpdate (Some op)
+pub of-update : (layout : Layout) (op : Operation) (lock : Option Lock) (path : List ℕ) (plan : RangePlan) (r : RangeState) (bytes : List ℕ) → IsUpdate (Some op)
     → IsPlanLocked layout op lock path plan r.info.fid → OfPlan plan r → r.aim ≡ Giving bytes → IsOfUpdate layout op r bytes
 of-update layout (operation.Update p o d) lock path plan r bytes update (inl held) range aim = cc
 of-update layout (operation.Update p o d) lock path plan r bytes update (inr held) range aim =
@@ -127,7 +127,7 @@ module _ (v : Volume) (ops : Actor → List Operation) (run h : List Event) (op 
   opened-not (_) path plan is locking = locking
 
   -- A range goes on.
-  go-text : (xs : List Event) → Fine xs → (lock : Option Lock) (r : Range) (path : List ℕ) (plan : RangePlan) → IsPlanLocked v.layout op lock path plan r.info.fid → OfPlan plan r → r.done ≤ r.size
+  go-text : (xs : List Event) → Fine xs → (lock : Option Lock) (r : RangeState) (path : List ℕ) (plan : RangePlan) → IsPlanLocked v.layout op lock path plan r.info.fid → OfPlan plan r → r.done ≤ r.size
       → (r.done < r.size → IsAligned v.layout r) → T xs (in_range (go_on v.layout r))
   go-text xs legal lock r path plan held range low aligned = go (r.done == r.size) refl
     where
@@ -146,7 +146,7 @@ module _ (v : Volume) (ops : Actor → List Operation) (run h : List Event) (op 
       go true is = tt
       go false is = let apart = eqb-false r.done r.size is in block (omega (arith, low, apart)) r.aim refl
 
-  passed-text : (xs : List Event) → Fine xs → (lock : Option Lock) (r : Range) (aim : Aim) (key : Key) → (is : IsRange v.layout op lock r key) → OfPlan is.plan (passed v.layout r aim) → T xs (in_range (go_on v.layout (passed v.layout r aim)))
+  passed-text : (xs : List Event) → Fine xs → (lock : Option Lock) (r : RangeState) (aim : Aim) (key : Key) → (is : IsRange v.layout op lock r key) → OfPlan is.plan (passed v.layout r aim) → T xs (in_range (go_on v.layout (passed v.layout r aim)))
   passed-text xs legal lock r aim key is range = go-text xs legal lock (passed v.layout r aim) is.path is.plan is.held range (low (count_in v.layout r) (few _ (r.size - r.done)) is.left) (passed-aligned v.layout r aim)
     where
       few : (a b : ℕ) → min a b ≤ b
@@ -156,16 +156,16 @@ module _ (v : Volume) (ops : Actor → List Operation) (run h : List Event) (op 
       low count most left = omega (arith, most, left)
 
   -- the range after the block in hand is of the same plan
-  plan-taking : (r : Range) (plan : RangePlan) (bytes more : List ℕ) → r.aim ≡ Taking bytes → OfPlan plan r → OfPlan plan (passed v.layout r (Taking more))
+  plan-taking : (r : RangeState) (plan : RangePlan) (bytes more : List ℕ) → r.aim ≡ Taking bytes → OfPlan plan r → OfPlan plan (passed v.layout r (Taking more))
   plan-taking r (WriteBytes offset b) bytes more aim is = cc
   plan-taking r (ReadBytes offset count) bytes more aim is = (is.0, is.1, tt)
 
-  plan-same : (r : Range) (plan : RangePlan) → OfPlan plan r → OfPlan plan (passed v.layout r r.aim)
+  plan-same : (r : RangeState) (plan : RangePlan) → OfPlan plan r → OfPlan plan (passed v.layout r r.aim)
   plan-same r (WriteBytes offset b) is = is
   plan-same r (ReadBytes offset count) is = is
 
   -- the block in hand was found with the text that is published
-  found-text : (xs : List Event) → Fine xs → (lock : Option Lock) (r : Range) (key : Key) → IsRange v.layout op lock r key → (text : List ℕ)
+  found-text : (xs : List Event) → Fine xs → (lock : Option Lock) (r : RangeState) (key : Key) → IsRange v.layout op lock r key → (text : List ℕ)
       → (IsLocking (Some op) → IsGuarded ops key (xs ++ run) → text ≡ published_text (xs ++ h) key) → (aim : Aim) → r.aim ≡ aim → T xs (in_range (with_text v.layout r text aim))
   found-text xs legal lock r key is text published (Taking bytes) aim_is = passed-text xs legal lock r (Taking _) key is (plan-taking r is.plan bytes _ aim_is is.range)
   found-text xs legal lock r key is text published (Giving bytes) aim_is = λ update guarded.
@@ -176,7 +176,7 @@ module _ (v : Volume) (ops : Actor → List Operation) (run h : List Event) (op 
       ∙ part-text v.layout r bytes k.size_is is.left is.aligned (published_text (xs ++ h) (key_in v.layout r)))
 
   -- how a read ended, and the text that its event tells
-  part-after : (x : Event) → Fine (x ∷ []) → accepted (of_word Export (x ∷ h)) ≡ accepted (of_word Export h) → (lock : Option Lock) (r : Range) (key : Key) → IsRange v.layout op lock r key → (m : ReadMark)
+  part-after : (x : Event) → Fine (x ∷ []) → accepted (of_word Export (x ∷ h)) ≡ accepted (of_word Export h) → (lock : Option Lock) (r : RangeState) (key : Key) → IsRange v.layout op lock r key → (m : ReadMark)
       → (IsLocking (Some op) → IsGuarded ops key run → ReadsPublished h key (reading.Ended m)) → T (x ∷ []) (in_range (after_part v.layout r (found_text (facts h) m) m))
   part-after x legal same lock r key is (mark.Found s size) newest = found-text (x ∷ []) legal lock r key is (found_text (facts h) (mark.Found s size)) (λ locking guarded.
       let n = newest locking (guarded-back ops key (x ∷ []) run guarded) in
@@ -186,7 +186,7 @@ module _ (v : Volume) (ops : Actor → List Operation) (run h : List Event) (op 
       sym (text-same v (x ∷ []) h key legal.0 (ap (λ f. f key) same) ∙ ap (text_of (facts h)) n)) r.aim refl
   part-after x legal same lock r key is (_) newest = tt
 
-  block-after : (xs : List Event) → Fine xs → (lock : Option Lock) (r : Range) (key : Key) → IsRange v.layout op lock r key → (end : WriteEnd) → T xs (in_range (after_block v.layout r end))
+  block-after : (xs : List Event) → Fine xs → (lock : Option Lock) (r : RangeState) (key : Key) → IsRange v.layout op lock r key → (end : WriteEnd) → T xs (in_range (after_block v.layout r end))
   block-after xs legal lock r key is (write.Acked stamp mask) = passed-text xs legal lock r r.aim key is (plan-same r is.plan is.range)
   block-after xs legal lock r key is (_) = tt
 
@@ -238,7 +238,7 @@ module _ (v : Volume) (ops : Actor → List Operation) (run h : List Event) (op 
   rebuild-text xs n state t = rebuild-next xs n (rebuild_after v.layout state t)
 
   -- The read of a block of the range.
-  module _ (by : Actor) (number : ℕ) (r : Range) (layout : Layout) (key : Key) (places : List ℕ) where
+  module _ (by : Actor) (number : ℕ) (r : RangeState) (layout : Layout) (key : Key) (places : List ℕ) where
     abbrev R : ReadStage → ReaderState
     R stage = record { layout = layout; key = key; places = places; stage = stage }
 
@@ -314,7 +314,7 @@ module _ (v : Volume) (ops : Actor → List Operation) (run h : List Event) (op 
       recheck (_) x is legal = cc
 
   -- The write of a block of the range.
-  module _ (by : Actor) (number : ℕ) (r : Range) (text : List ℕ) (layout : Layout) (key : Key) (places : List ℕ) (size : ℕ) where
+  module _ (by : Actor) (number : ℕ) (r : RangeState) (text : List ℕ) (layout : Layout) (key : Key) (places : List ℕ) (size : ℕ) where
     abbrev S : WriteStage → WriterState
     S stage = record { layout = layout; key = key; places = places; length = size; stage = stage }
 
@@ -335,7 +335,7 @@ module _ (v : Volume) (ops : Actor → List Operation) (run h : List Event) (op 
           (subst (λ (z : List ℕ). IsUpdated v.layout (Some op) key.block z text) (sym (text-same v xs h key legal (accepted-same xs h key silent)))
           (old update (guarded-back ops key xs run (subst (λ (k : Key). IsGuarded ops k (xs ++ run)) same guarded)))))
 
-    sent : IsLegalInRuns v h → (t0 : Sent) → (IsUpdate (Some op) → IsGuarded ops key run → IsUpdated v.layout (Some op) key.block (published_text h key) text)
+    sent : IsLegalInRuns v h → (t0 : SentRecords) → (IsUpdate (Some op) → IsGuarded ops key run → IsUpdated v.layout (Some op) key.block (published_text h key) text)
         → (xs : List Event) (t : Told) → AreSilent key xs → (t ≡ Missed) ⊎ ((given : NodeAnswer) × (t ≡ Answered true given)) → T xs (told v.layout (Writing (Within r) text (S (writing.Sending t0))) t)
     sent legal t0 old xs t silent (inl is) = subst (λ z. T xs (told v.layout (Writing (Within r) text (S (writing.Sending t0))) z)) (sym is) (kept legal (writing.Sending t0) old xs Missed silent)
     sent legal t0 old xs t silent (inr (given, is)) =
@@ -348,7 +348,7 @@ module _ (v : Volume) (ops : Actor → List Operation) (run h : List Event) (op 
     begins legal old (reply.Denied why) x is = λ update guarded. tt
     begins legal old (_) x is = cc
 
-    publishing : IsLegalInRuns v h → (t0 : Sent) → (IsUpdate (Some op) → IsGuarded ops key run → IsUpdated v.layout (Some op) key.block (published_text h key) text)
+    publishing : IsLegalInRuns v h → (t0 : SentRecords) → (IsUpdate (Some op) → IsGuarded ops key run → IsUpdated v.layout (Some op) key.block (published_text h key) text)
         → (mask : ℕ) (c : Reply) (x : Event) → export_event by (call.Publish key t0.stamp mask size) c ≡ Some x → Afterwards (x ∷ []) (Replied c) (writing.Sending t0)
     publishing legal t0 old mask reply.Accepted x is = λ update guarded. tt
     publishing legal t0 old mask (reply.Enrolled p fence) x is =
@@ -376,7 +376,7 @@ module _ (v : Volume) (ops : Actor → List Operation) (run h : List Event) (op 
     via : (c : Call) (W : Told → Work) → ((r : Reply) (x : Event) → export_event by c r ≡ Some x → Fine (x ∷ []) → T (x ∷ []) (W (Replied r))) → IsExportStep by c t xs → T xs (W t)
     via c W f step = export-step by c (λ t xs. Fine xs → T xs (W t)) f t xs step legal
 
-    reading-within : (r : Range) (layout : Layout) (key : Key) (places : List ℕ) → IsRange v.layout op lock r key → (stage : ReadStage)
+    reading-within : (r : RangeState) (layout : Layout) (key : Key) (places : List ℕ) → IsRange v.layout op lock r key → (stage : ReadStage)
         → IsText v.layout ops run h (Some op) (Reading (Within r) (record { layout = layout; key = key; places = places; stage = stage }))
         → Turn (Reading (Within r) (record { layout = layout; key = key; places = places; stage = stage }))
     reading-within r layout key places is reading.Looking old step said =
@@ -392,7 +392,7 @@ module _ (v : Volume) (ops : Actor → List Operation) (run h : List Event) (op 
         (subst (λ (zs : List Event). Fine zs → T zs (in_range (after_part v.layout r (found_text (facts h) m) m))) (sym step.2)
         (λ fine. part-after (said_event by number step.0 (SayGot key true m)) fine refl lock r key is m old) legal)
 
-    writing-within : (r : Range) (text : List ℕ) (layout : Layout) (key : Key) (places : List ℕ) (size : ℕ) → IsRange v.layout op lock r key → (stage : WriteStage)
+    writing-within : (r : RangeState) (text : List ℕ) (layout : Layout) (key : Key) (places : List ℕ) (size : ℕ) → IsRange v.layout op lock r key → (stage : WriteStage)
         → IsText v.layout ops run h (Some op) (Writing (Within r) text (record { layout = layout; key = key; places = places; length = size; stage = stage }))
         → Turn (Writing (Within r) text (record { layout = layout; key = key; places = places; length = size; stage = stage }))
     writing-within r text layout key places size is writing.Beginning old step said =

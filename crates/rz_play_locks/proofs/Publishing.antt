@@ -27,12 +27,12 @@ use Rattle.rz_core.specs.History.{Facts, facts, of_actor}
 use Rattle.rz_client_model.specs.declared.writing.WriterState.{WriterState}
 use Rattle.rz_client_model.specs.declared.writing.WriteStage.{WriteStage}
 use Rattle.rz_client_model.specs.declared.writing.WriteStage.TheVariants as writing
-use Rattle.rz_client_model.specs.declared.writing.Sent.{Sent}
+use Rattle.rz_client_model.specs.declared.writing.SentRecords.{SentRecords}
 use Rattle.rz_client_model.specs.Read.{reader_ask, reader_end}
 use Rattle.rz_client_model.specs.Write.{next_position, mask_of}
 use Rattle.rz_events.specs.declared.operations.Operation.{Operation}
 use Rattle.rz_events.specs.declared.operations.Operation.TheVariants as operation
-use Rattle.rz_operation_model.specs.Ranges.{Range}
+use Rattle.rz_operation_model.specs.Ranges.{RangeState}
 use Rattle.rz_operation_model.specs.Rebuild.{ask_to_copy, Probing, Enrolling, Replacing, Listing, Copying, Refilling, Leaving}
 use Rattle.rz_operation_model.specs.Work.{Work, Plan, OnBlock, OnRange, RangePlan, PutBlock, WriteBytes, ReadBytes, Course, Alone, Within, Calling, Dropping, Opening, Locking, Writing, Reading, Rebuilding, Ending, Over}
 use Rattle.rz_operation_model.specs.Ask.{Ask, AskExport, AskNode, AskLock, Say, Rest, Saying, SayGot, SayGave, SayLeft, SayDone, ask_of, is_part, read_asks, rebuild_asks, write_asks, first_byte, whole_bytes}
@@ -126,7 +126,7 @@ pub record IsSendingOf (work : Work) (key : Key) (stamp : ℕ) : Type 0 where
   pub course : Course
   pub text : List ℕ
   pub state : WriterState
-  pub sent : Sent
+  pub sent : SentRecords
   pub work_is : work ≡ Writing course text state
   pub stage_is : state.stage ≡ writing.Sending sent
   pub key_is : state.key ≡ key
@@ -227,7 +227,7 @@ not-read : (op : Operation) (path : List ℕ) (offset count : ℕ) → IsUpdate 
 not-read (operation.Update p o d) path offset count update is = cc
 not-read (_) path offset count update is = absurd update
 
-pub update-locked : (layout : Layout) (op : Operation) (lock : Option Lock) (r : Range) (key : Key) → IsUpdate (Some op) → IsRange layout op lock r key → IsLocked layout lock key
+pub update-locked : (layout : Layout) (op : Operation) (lock : Option Lock) (r : RangeState) (key : Key) → IsUpdate (Some op) → IsRange layout op lock r key → IsLocked layout lock key
 update-locked layout op lock r key update is = go is.plan is.held is.range
   where
     go : (plan : RangePlan) → IsPlanLocked layout op lock is.path plan r.info.fid → OfPlan plan r → IsLocked layout lock key

@@ -24,7 +24,7 @@ use Rattle.rz_client_model.specs.declared.writing.WriteStage.{WriteStage}
 use Rattle.rz_client_model.specs.declared.writing.WriteStage.TheVariants as writing
 use Rattle.rz_events.specs.declared.operations.Operation.{Operation}
 use Rattle.rz_events.specs.declared.operations.Operation.TheVariants as operation
-use Rattle.rz_operation_model.specs.Ranges.{Range}
+use Rattle.rz_operation_model.specs.Ranges.{RangeState}
 use Rattle.rz_operation_model.specs.Work.{Work, Plan, OnBlock, OnRange, RangePlan, PutBlock, WriteBytes, ReadBytes, Course, Alone, Within, Calling, Dropping, Opening, Locking, Writing, Reading, Rebuilding, Ending, Over}
 use Rattle.rz_operation_model.specs.Ask.{Ask, AskExport, AskNode, AskLock, Say, Rest, ask_of, first_byte, whole_bytes}
 use Rattle.rz_operation_model.specs.Steps.{Told, begun, told}
@@ -63,7 +63,7 @@ never-opened (operation.Update p o d) path plan locking is = cc
 never-opened (operation.View p o c) path plan locking is = cc
 never-opened (_) path plan locking is = locking
 
-pub range-on : (layout : Layout) (op : Operation) (lock : Option Lock) (r : Range) (key : Key) → IsLocking (Some op) → IsRange layout op lock r key → IsOn layout lock key
+pub range-on : (layout : Layout) (op : Operation) (lock : Option Lock) (r : RangeState) (key : Key) → IsLocking (Some op) → IsRange layout op lock r key → IsOn layout lock key
 range-on layout op lock r key locking is = go is.plan is.held is.range
   where
     on : (offset count : ℕ) (exclusive : Bool) → r.offset ≡ offset → r.done < count → lock ≡ Some (record { range = record { fid = r.info.fid; from = first_byte layout offset; length = whole_bytes layout offset count }; kind = kind_of exclusive })

@@ -39,7 +39,7 @@ use Rattle.rz_client_model.specs.declared.writing.WriterState.{WriterState}
 use Rattle.rz_client_model.specs.Read.{next_position as next_read}
 use Rattle.rz_events.specs.declared.operations.Operation.{Operation}
 use Rattle.rz_events.specs.declared.operations.Operation.TheVariants as operation
-use Rattle.rz_operation_model.specs.Ranges.{Range, Aim, Taking, Giving, key_in, start_in, count_in, passed, cut}
+use Rattle.rz_operation_model.specs.Ranges.{RangeState, Aim, Taking, Giving, key_in, start_in, count_in, passed, cut}
 use Rattle.rz_operation_model.specs.Rebuild.{RebuildState, Rebuild, Going, Ended as RebuildEnded}
 use Rattle.rz_events.specs.declared.machines.FileEnd.TheVariants as end
 use Rattle.rz_operation_model.specs.Files.{Ended as FileEnded, next_block, go_on, with_text, after_part}
@@ -111,7 +111,7 @@ viewed-other layout ops run offset count answer is None = tt
 viewed-other layout ops run offset count answer is (Some opened) = λ all. is opened.0 opened.1 (min count (opened.0.size - offset))
 
 -- what was seen stays so where each block's text stays
-pub so-far-frame : (layout : Layout) (ops : Actor → List Operation) (old run h xs : List Event) (a : Actor) (offset count : ℕ) (r : Range) → last_open a old (xs ++ run) ≡ last_open a old run
+pub so-far-frame : (layout : Layout) (ops : Actor → List Operation) (old run h xs : List Event) (a : Actor) (offset count : ℕ) (r : RangeState) → last_open a old (xs ++ run) ≡ last_open a old run
     → (AllGuarded layout ops (xs ++ run) r.info offset r.size → (i : ℕ) → i < r.size
     → published_text (xs ++ h) (key_at r.info ((offset + i) / block_bytes_of layout)) ≡ published_text h (key_at r.info ((offset + i) / block_bytes_of layout)))
     → IsSoFar layout ops old run h a offset count r → IsSoFar layout ops old (xs ++ run) (xs ++ h) a offset count r
@@ -138,13 +138,13 @@ module _ (v : Volume) (ops : Actor → List Operation) (old run h : List Event) 
   other : (xs : List Event) (answer : Answer) → ((info : FileInfo) (g : List Event) (size : ℕ) → IsViewWhole v.layout info g offset size answer) → V xs (Ending answer)
   other xs answer is = viewed-other v.layout ops (xs ++ run) offset count answer is (last_open by old (xs ++ run))
 
-  still-so-far : (xs : List Event) → IsStill by old xs run → (r : Range) → IsSoFar v.layout ops old run h by offset count r → IsSoFar v.layout ops old (xs ++ run) (xs ++ h) by offset count r
+  still-so-far : (xs : List Event) → IsStill by old xs run → (r : RangeState) → IsSoFar v.layout ops old run h by offset count r → IsSoFar v.layout ops old (xs ++ run) (xs ++ h) by offset count r
   still-so-far xs still r is =
       so-far-frame v.layout ops old run h xs by offset count r still.opens
       (λ all i low. text-same v xs h (key_at r.info ((offset + i) / B)) before (accepted-same xs h (key_at r.info ((offset + i) / B)) (still.silent (key_at r.info ((offset + i) / B))))) is
 
   -- the range goes on
-  go-seen : (xs : List Event) (r : Range) → IsSoFar v.layout ops old (xs ++ run) (xs ++ h) by offset count r → V xs (in_range (go_on v.layout r))
+  go-seen : (xs : List Event) (r : RangeState) → IsSoFar v.layout ops old (xs ++ run) (xs ++ h) by offset count r → V xs (in_range (go_on v.layout r))
   go-seen xs r is = go (r.done == r.size) refl
     where
       all-of : AllGuarded v.layout ops (xs ++ run) r.info offset (min count (r.info.size - offset)) → AllGuarded v.layout ops (xs ++ run) r.info offset r.size
@@ -159,7 +159,7 @@ module _ (v : Volume) (ops : Actor → List Operation) (old run h : List Event) 
       go false left = subst (λ z. V xs (in_range (next_block v.layout r z))) (sym is.aim_is) is
 
   -- the block in hand was found with the text that is published
-  passed-seen : (xs : List Event) → IsStill by old xs run → (r : Range) → IsSoFar v.layout ops old run h by offset count r → r.offset ≡ offset → r.done < r.size → (text : List ℕ)
+  passed-seen : (xs : List Event) → IsStill by old xs run → (r : RangeState) → IsSoFar v.layout ops old run h by offset count r → r.offset ≡ offset → r.done < r.size → (text : List ℕ)
       → (IsGuarded ops (key_in v.layout r) run → text ≡ published_text h (key_in v.layout r)) → V xs (in_range (with_text v.layout r text r.aim))
   passed-seen xs still r is at left text published =
       subst (λ z. V xs (in_range (with_text v.layout r text z))) (sym is.aim_is)
@@ -193,7 +193,7 @@ module _ (v : Volume) (ops : Actor → List Operation) (old run h : List Event) 
           ∙ ap (published_text h) (sym key-is) ∙ is.texts all r.done left ∙ ap (λ o. texts ((o + r.done) / B)) (sym at)
 
   -- how its read ended
-  part-seen : (xs : List Event) → IsStill by old xs run → (lock : Option Lock) (r : Range) (key : Key) → IsRange v.layout op lock r key → r.offset ≡ offset → IsSoFar v.layout ops old run h by offset count r
+  part-seen : (xs : List Event) → IsStill by old xs run → (lock : Option Lock) (r : RangeState) (key : Key) → IsRange v.layout op lock r key → r.offset ≡ offset → IsSoFar v.layout ops old run h by offset count r
       → (m : ReadMark) → (IsGuarded ops key run → ReadsPublished h key (reading.Ended m)) → V xs (in_range (after_part v.layout r (found_text (facts h) m) m))
   part-seen xs still lock r key range at is (mark.Found s size) newest =
       passed-seen xs still r is at range.left (found_text (facts h) (mark.Found s size)) (λ guarded.
@@ -305,7 +305,7 @@ module _ (v : Volume) (ops : Actor → List Operation) (old run h : List Event) 
     writing-alone text s Missed = tt
 
     -- a read that has not ended goes on
-    reading-on : (r : Range) (s : ReaderState) → reader_end s ≡ None → IsSoFar v.layout ops old (xs ++ run) (xs ++ h) by offset count r → (t : Told) → V xs (told v.layout (Reading (Within r) s) t)
+    reading-on : (r : RangeState) (s : ReaderState) → reader_end s ≡ None → IsSoFar v.layout ops old (xs ++ run) (xs ++ h) by offset count r → (t : Told) → V xs (told v.layout (Reading (Within r) s) t)
     reading-on r s none is (Noted text) = subst (λ z. V xs (said_reading v.layout (Within r) s text z)) (sym none) is
     reading-on r s none is (Replied a) = is
     reading-on r s none is (Locked granted a) = is
@@ -316,7 +316,7 @@ module _ (v : Volume) (ops : Actor → List Operation) (old run h : List Event) 
     plan-of : (path : List ℕ) (plan : RangePlan) → begun op ≡ Locking path plan → plan ≡ ReadBytes offset count
     plan-of path plan is = cc
 
-    never : (r : Range) (key : Key) → IsRange v.layout op lock r key → IsToGive r.aim → ⊥
+    never : (r : RangeState) (key : Key) → IsRange v.layout op lock r key → IsToGive r.aim → ⊥
     never r key is give = go is.held
       where
         both : (aim : Aim) → IsTaking aim → IsToGive aim → ⊥
@@ -327,14 +327,14 @@ module _ (v : Volume) (ops : Actor → List Operation) (old run h : List Event) 
         go (inl held) = (let k = held.0 in cc)
         go (inr held) = both r.aim (subst (λ z. OfPlan z r) (plan-of is.path is.plan held.0) is.range).2 give
 
-    offset-of : (r : Range) (key : Key) → IsRange v.layout op lock r key → r.offset ≡ offset
+    offset-of : (r : RangeState) (key : Key) → IsRange v.layout op lock r key → r.offset ≡ offset
     offset-of r key is = go is.held
       where
         go : IsPlanLocked v.layout op lock is.path is.plan r.info.fid → r.offset ≡ offset
         go (inl held) = absurd (let k = held.0 in cc)
         go (inr held) = (subst (λ z. OfPlan z r) (plan-of is.path is.plan held.0) is.range).0
 
-    reading-within : (r : Range) (layout : Layout) (key : Key) (places : List ℕ) → IsRange v.layout op lock r key → IsSoFar v.layout ops old run h by offset count r → (stage : ReadStage)
+    reading-within : (r : RangeState) (layout : Layout) (key : Key) (places : List ℕ) → IsRange v.layout op lock r key → IsSoFar v.layout ops old run h by offset count r → (stage : ReadStage)
         → IsText v.layout ops run h (Some op) (Reading (Within r) (record { layout = layout; key = key; places = places; stage = stage }))
         → Turn (Reading (Within r) (record { layout = layout; key = key; places = places; stage = stage }))
     reading-within r layout key places range is reading.Looking text step said =

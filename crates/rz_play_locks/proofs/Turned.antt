@@ -29,7 +29,7 @@ use Rattle.rz_client_model.specs.declared.reading.Fetches.{Fetches}
 use Rattle.rz_client_model.specs.declared.writing.WriterState.{WriterState}
 use Rattle.rz_client_model.specs.declared.writing.WriteStage.{WriteStage}
 use Rattle.rz_client_model.specs.declared.writing.WriteStage.TheVariants as writing
-use Rattle.rz_client_model.specs.declared.writing.Sent.{Sent}
+use Rattle.rz_client_model.specs.declared.writing.SentRecords.{SentRecords}
 use Rattle.rz_client_model.specs.Read.{next_position as next_read}
 use Rattle.rz_client_model.specs.Write.{mask_of, next_position}
 use Rattle.rz_events.specs.declared.machines.ReaderAsk.TheVariants as reads
@@ -59,7 +59,7 @@ export-going (e.Done by number answer) is = cc
 export-going (_) is = refl
 
 -- what a write asks while it sends, and a read while it fetches, where the test is known
-abbrev pub send_asks : Course → List ℕ → Layout → Key → List ℕ → ℕ → Sent → Bool → Ask
+abbrev pub send_asks : Course → List ℕ → Layout → Key → List ℕ → ℕ → SentRecords → Bool → Ask
 send_asks course text layout key places size t0 b =
     write_asks (is_part course) text (record { layout = layout; key = key; places = places; length = size; stage = writing.Sending t0 })
     (cond b (writes.Keep (next_position t0) (slice_index places (next_position t0)) t0.stamp t0.base) (writes.Publish t0.stamp (mask_of t0.why)))
@@ -135,20 +135,20 @@ module _ (v : Volume) (ops : Actor → List Operation) (h : List Event) (by : Ac
       abbrev S : WriteStage → WriterState
       S stage = record { layout = layout; key = key; places = places; length = size; stage = stage }
 
-      abbrev Sends : Sent → Told → Work
+      abbrev Sends : SentRecords → Told → Work
       Sends t0 t = told v.layout (Writing course text (S (writing.Sending t0))) t
 
       writes-on : (stage : WriteStage) (t : Told) → Later v.layout op lock (Writing course text (writer_after (S stage) t))
       writes-on stage t = writing-later v.layout op lock course text (S stage) t in_course alone
 
-      sends : (t0 : Sent) (t : Told) → Later v.layout op lock (Sends t0 t)
+      sends : (t0 : SentRecords) (t : Told) → Later v.layout op lock (Sends t0 t)
       sends t0 (Replied r) = writes-on (writing.Sending t0) (Replied r)
       sends t0 (Locked granted r) = writes-on (writing.Sending t0) (Locked granted r)
       sends t0 (Answered fits given) = writes-on (writing.Sending t0) (Answered fits given)
       sends t0 Missed = writes-on (writing.Sending t0) Missed
       sends t0 (Noted found) = writes-on (writing.Sending t0) (Noted found)
 
-      sending : (t0 : Sent) (t : Told) (xs : List Event) → (b : Bool)
+      sending : (t0 : SentRecords) (t : Told) (xs : List Event) → (b : Bool)
           → IsStep by number (write_asks (is_part course) text (S (writing.Sending t0)) (cond b (writes.Keep (next_position t0) (slice_index places (next_position t0)) t0.stamp t0.base) (writes.Publish t0.stamp (mask_of t0.why)))) t xs
           → Between xs (Sends t0 t) → After xs lock (Sends t0 t)
       sending t0 t xs true step = by-node (slice_index places (next_position t0)) (ask.Keep _) (Sends t0) tt (sends t0) t xs step

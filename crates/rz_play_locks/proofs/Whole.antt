@@ -40,7 +40,7 @@ use Rattle.rz_client_model.specs.Write.{writer_ask, writer_end}
 use Rattle.rz_events.specs.declared.operations.Operation.{Operation}
 use Rattle.rz_events.specs.declared.operations.Operation.TheVariants as operation
 use Rattle.rz_script.specs.declared.line.Line.{Line}
-use Rattle.rz_operation_model.specs.Ranges.{Range}
+use Rattle.rz_operation_model.specs.Ranges.{RangeState}
 use Rattle.rz_operation_model.specs.Rebuild.{ask_to_copy, Probing, Enrolling, Replacing, Listing, Copying, Refilling, Leaving}
 use Rattle.rz_operation_model.specs.Work.{Work, OnRange, RangePlan, WriteBytes, ReadBytes, Alone, Within, Calling, Dropping, Opening, Locking, Writing, Reading, Rebuilding, Ending, Over}
 use Rattle.rz_operation_model.specs.Ask.{Ask, AskExport, AskNode, AskLock, Say, Rest, Saying, SayGot, SayGave, SayLeft, SayDone, ask_of, is_part, read_asks, rebuild_asks, write_asks, gave, first_byte, whole_bytes}
@@ -166,7 +166,7 @@ module _ (v : Volume) (ops : Actor → List Operation) (old run : List Event) (w
   whole-turn f o mine by number Rest ok done t xs step = absurd step
 
 -- Each block of a view's range is within its lock.
-view-on : (layout : Layout) (path : List ℕ) (offset count : ℕ) (lock : Option Lock) (r : Range) (key : Key) → IsRange layout (operation.View path offset count) lock r key → (i : ℕ) → i < r.size
+view-on : (layout : Layout) (path : List ℕ) (offset count : ℕ) (lock : Option Lock) (r : RangeState) (key : Key) → IsRange layout (operation.View path offset count) lock r key → (i : ℕ) → i < r.size
     → IsOn layout lock (key_at r.info ((offset + i) / block_bytes_of layout))
 view-on layout path offset count lock r key is i low = go is.plan is.held is.range
   where

@@ -10,7 +10,7 @@ use Rattle.rz_events.specs.declared.events.Event.TheVariants as e
 use Rattle.rz_events.specs.Events.{same_actor}
 use Rattle.rz_core.specs.History.{of_actor}
 use Rattle.rz_events.specs.declared.operations.Operation.{Operation}
-use Rattle.rz_operation_model.specs.Ranges.{Range, Aim, Taking, Giving, key_in, start_in}
+use Rattle.rz_operation_model.specs.Ranges.{RangeState, Aim, Taking, Giving, key_in, start_in}
 use Rattle.rz_operation_model.specs.Work.{Work, OnBlock, OnRange, RangePlan, PutBlock, WriteBytes, ReadBytes, Course, Alone, Within, Calling, Dropping, Opening, Locking, Writing, Reading, Rebuilding, Ending, Over}
 use Rattle.rz_operation_model.specs.Ask.{Ask, AskLock, lock_asks}
 use Rattle.rz_operation_model.specs.Steps.{begun}
@@ -46,7 +46,7 @@ abbrev pub IsTaking : Aim → Type 0
 IsTaking (Taking bytes) = Unit {0}
 IsTaking (Giving bytes) = ⊥
 
-abbrev pub OfPlan : RangePlan → Range → Type 0
+abbrev pub OfPlan : RangePlan → RangeState → Type 0
 OfPlan (WriteBytes offset bytes) r = (r.offset ≡ offset) × (r.size ≡ length bytes) × IsGiving r.aim bytes
 OfPlan (ReadBytes offset count) r = (r.offset ≡ offset) × (r.size ≤ count) × IsTaking r.aim
 
@@ -56,11 +56,11 @@ IsPlanLocked layout op lock path plan fid =
     ((begun op ≡ Opening path (OnRange plan)) × (lock ≡ None)) ⊎ ((begun op ≡ Locking path plan) × (lock ≡ lock_for layout path plan fid))
 
 -- the range is at its beginning, or at that of a block
-abbrev pub IsAligned : Layout → Range → Type 0
+abbrev pub IsAligned : Layout → RangeState → Type 0
 IsAligned layout r = (r.done ≡ 0) ⊎ (start_in layout r ≡ 0)
 
 -- a block of the range, which is that of the operation's plan, is in hand
-pub record IsRange (layout : Layout) (op : Operation) (lock : Option Lock) (r : Range) (key : Key) : Type 0 where
+pub record IsRange (layout : Layout) (op : Operation) (lock : Option Lock) (r : RangeState) (key : Key) : Type 0 where
   pub path : List ℕ
   pub plan : RangePlan
   pub held : IsPlanLocked layout op lock path plan r.info.fid

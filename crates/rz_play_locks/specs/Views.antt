@@ -7,7 +7,7 @@ use Rattle.rz_events.specs.declared.events.Event.{Event}
 use Rattle.rz_core.specs.History.{of_actor}
 use Rattle.rz_events.specs.declared.operations.Operation.{Operation}
 use Rattle.rz_events.specs.declared.operations.Operation.TheVariants as operation
-use Rattle.rz_operation_model.specs.Ranges.{Range, Taking}
+use Rattle.rz_operation_model.specs.Ranges.{RangeState, Taking}
 use Rattle.rz_operation_model.specs.Work.{Work, Within, Reading, Ending}
 use Rattle.rz_play.specs.World.{World}
 use Rattle.rz_script.specs.Lines.{IsActor}
@@ -17,7 +17,7 @@ use Rattle.rz_play_locks.specs.Texts.{IsSafe}
 
 -- The range is that of the actor's newest open. Where its blocks are guarded, what is published of each is what was
 -- published then, and the bytes that came so far are those of these texts.
-pub record IsSoFar (layout : Layout) (ops : Actor → List Operation) (old run h : List Event) (a : Actor) (offset count : ℕ) (r : Range) : Type 0 where
+pub record IsSoFar (layout : Layout) (ops : Actor → List Operation) (old run h : List Event) (a : Actor) (offset count : ℕ) (r : RangeState) : Type 0 where
   pub before : List Event
   pub opened : last_open a old run ≡ Some (r.info, before)
   pub size_is : r.size ≡ min count (r.info.size - offset)

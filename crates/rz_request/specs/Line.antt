@@ -5,7 +5,7 @@ use Rattle.rz_script_words.specs.Numerals.{numeral}
 use Rattle.rz_request.specs.declared.items.ItemKind.TheVariants.{Disks, Folder, Plain}
 use Rattle.rz_request.specs.declared.command.Command.{Command}
 use Rattle.rz_request.specs.declared.command.Command.TheVariants.{Replay, Run, Load, Migrate, Scrub, First, Again}
-use Rattle.rz_request.specs.declared.line.Line as lines
+use Rattle.rz_request.specs.declared.line.CommandLine as lines
 use Rattle.rz_request.specs.declared.command.Wanted.{Wanted}
 use Rattle.rz_request.specs.declared.command.WordsError.{WordsError}
 use Rattle.rz_request.specs.declared.command.WordsError.TheVariants.{NoMemory, Usage}
@@ -73,7 +73,7 @@ meaning (program ∷ name ∷ words) = of_items name (items words)
 meaning _ = None
 
 -- what was read of a line
-abbrev pub seen : lines.Line → Meaning
+abbrev pub seen : lines.CommandLine → Meaning
 seen l = record { command = l.command; disks = l.disks; folder = option_map (λ path. path.now) l.folder }
 
 -- what was wanted

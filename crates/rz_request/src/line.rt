@@ -11,7 +11,7 @@ use crate::numbers::read_number_in;
 
 /// A line that has the form.
 #[derive(Clone, Copy)]
-pub struct Line<'a> {
+pub struct CommandLine<'a> {
     pub command: Command,
     pub disks: u16,
     pub folder: Option<&'a str>,
@@ -104,7 +104,7 @@ fn read_command(name: &str, words: &[String]) -> Option<Command>
 }
 
 /// What the words state, where they have the form.
-pub fn read_line(words: &[String]) -> Option<Line<'_>>
+pub fn read_line(words: &[String]) -> Option<CommandLine<'_>>
     ensures { option_map seen result ≡ meaning (map string_bytes words.now) }
 {
     let (_, words) = words.split_first()?;
@@ -112,7 +112,7 @@ pub fn read_line(words: &[String]) -> Option<Line<'_>>
     let command = read_command(name.as_str(), words)?;
     let disks = read_disks(words)?;
     let folder = read_folder(words)?;
-    Some(Line {
+    Some(CommandLine {
         command,
         disks,
         folder,

@@ -4,7 +4,7 @@ ghost use Rattle.std.specs.Prelude.{◌≡◌, true};
 ghost use Rattle.rz_request.specs.Line.{seen};
 
 use crate::Command;
-use crate::line::Line;
+use crate::line::CommandLine;
 use crate::numbers::read_number_in;
 use clap::ArgMatches;
 
@@ -29,12 +29,12 @@ fn command_of(name: &str, number: Option<&str>) -> Option<Command> {
 }
 
 /// The command, the disks and the folder of what was taken.
-pub fn taken<'a>(matches: &ArgMatches<'a>) -> Option<Line<'a>> {
+pub fn taken<'a>(matches: &ArgMatches<'a>) -> Option<CommandLine<'a>> {
     let (name, inner) = matches.subcommand()?;
     let command = command_of(name, inner.get_str("number"))?;
     let disks = read_number_in(inner.get_str("disks")?, 1, 256)? as u16;
     let folder = inner.get_str("dir");
-    Some(Line {
+    Some(CommandLine {
         command,
         disks,
         folder,
@@ -42,7 +42,7 @@ pub fn taken<'a>(matches: &ArgMatches<'a>) -> Option<Line<'a>> {
 }
 
 /// Whether two lines say the same.
-pub fn is_same(a: &Line, b: &Line) -> bool
+pub fn is_same(a: &CommandLine, b: &CommandLine) -> bool
     ensures { result ≡ true → seen a.now ≡ seen b.now }
 {
     a.command == b.command && a.disks == b.disks && a.folder == b.folder

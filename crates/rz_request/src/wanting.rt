@@ -4,7 +4,7 @@ ghost use Rattle.std.specs.Prelude.{◌≡◌, IfOk, Some, map, option_map, stri
 ghost use Rattle.rz_request.specs.Line.{Answers, meaning, seen};
 
 use crate::command::{Wanted, WordsError};
-use crate::line::{Line, read_line};
+use crate::line::{CommandLine, read_line};
 use crate::parser::parse;
 use crate::taking::{is_same, taken};
 use std::alloc::{AllocError, Global};
@@ -20,7 +20,7 @@ fn own(alloc: Global, folder: Option<&str>) -> Result<Option<String>, AllocError
 }
 
 /// What a line wants.
-fn wish_for(alloc: Global, line: &Line) -> Result<Wanted, WordsError>
+fn wish_for(alloc: Global, line: &CommandLine) -> Result<Wanted, WordsError>
     ensures { Answers (Some (seen line.now)) result }
 {
     match own(alloc, line.folder) {

@@ -25,7 +25,7 @@ use Rattle.rz_core.proofs.NodeSteps.{the_some}
 use Rattle.rz_core.proofs.Stamps.{export}
 use Rattle.rz_log_laws.specs.Changes.{only_asks, is_refused, is_changing, calls_of, built, IsBuilt}
 use Rattle.rz_play_laws.proofs.Events.{export-event}
-use Rattle.rz_journal_text.specs.declared.entry.Entry.TheVariants as entry
+use Rattle.rz_journal_text.specs.declared.entry.JournalEntry.TheVariants as entry
 use Rattle.rz_journal.specs.JournalText.{after_all}
 use Rattle.rz_journal.specs.Said.{only_looks, has_long_text, entry_of, accepts}
 use Rattle.rz_journal.specs.Seen.{calls_after}

@@ -3,7 +3,7 @@ use Rattle.std.proofs.Common.{◌≡◌, ℕ, ◌+◌, ◌<◌, List, [], ◌∷
 use Rattle.rz_config.specs.Plain.{plain_volume}
 use Rattle.rz_script_words.specs.declared.form.Form.{Form}
 use Rattle.rz_script.specs.declared.fault.ScriptError.{ScriptError}
-use Rattle.rz_script.specs.declared.reading.Head.TheVariants as heads
+use Rattle.rz_script.specs.declared.reading.LineRole.TheVariants as heads
 use Rattle.rz_script.specs.Scripts.{Script}
 use Rattle.rz_script_words.specs.Grammar.{words, after_word}
 use Rattle.rz_script.specs.Grammar.{lines_from, line, head, headed, given, with_lines}

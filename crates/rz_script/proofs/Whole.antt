@@ -10,8 +10,8 @@ use Rattle.rz_script_words.specs.declared.fault.ScriptCause.{ScriptCause}
 use Rattle.rz_script.specs.declared.fault.ScriptError.{ScriptError}
 use Rattle.rz_script.specs.declared.line.Line.{Line}
 use Rattle.rz_script_words.specs.declared.form.Form.{Form}
-use Rattle.rz_script.specs.declared.reading.Head.{Head}
-use Rattle.rz_script.specs.declared.reading.Head.TheVariants as heads
+use Rattle.rz_script.specs.declared.reading.LineRole.{LineRole}
+use Rattle.rz_script.specs.declared.reading.LineRole.TheVariants as heads
 use Rattle.rz_script.specs.Scripts.{Script, no_lines}
 use Rattle.rz_script.specs.Lines.{AreLines}
 use Rattle.rz_script_words.specs.Grammar.{words, after_word}
@@ -86,7 +86,7 @@ described_ok form m json (w ∷ ws) n texts s good e = volume_ok form (volume_of
 wider : (a b : ℕ) (s : Script) → a ≤ b → Good a s → Good b s
 wider a b s le g = let few = g.few in record { limits = g.limits; few = omega (arith, few, le) }
 
-by_kind : (form : Form) (n : ℕ) (text : List ℕ) (texts : List (List ℕ)) (s : Script) (h : Head) → AllByRecursion IsText (text ∷ texts) → (headed form (n + 1) texts ≡ Ok s → Good (total texts) s)
+by_kind : (form : Form) (n : ℕ) (text : List ℕ) (texts : List (List ℕ)) (s : Script) (h : LineRole) → AllByRecursion IsText (text ∷ texts) → (headed form (n + 1) texts ≡ Ok s → Good (total texts) s)
     → by_head h (headed form (n + 1) texts) (given n (after_word text) (λ v. lines_from form v (n + 1) texts)) (with_lines plain_volume (lines_from form plain_volume n (text ∷ texts))) ≡ Ok s → Good (total (text ∷ texts)) s
 unfolding given
 by_kind form n text texts s heads.Passed good later e = wider (total texts) (total (text ∷ texts)) s (omega arith) (later e)

@@ -18,8 +18,8 @@ use Rattle.rz_script.specs.declared.line.Line.{Line}
 use Rattle.rz_script.specs.declared.line.Line.TheVariants.{Op, Turn, Rounds, Rest, Stop, Start, Lose, Break, Miss}
 use Rattle.rz_script.specs.declared.keywords.Keyword.{Keyword}
 use Rattle.rz_script.specs.declared.keywords.Keyword.TheVariants as keys
-use Rattle.rz_script.specs.declared.reading.Head.{Head}
-use Rattle.rz_script.specs.declared.reading.Head.TheVariants as heads
+use Rattle.rz_script.specs.declared.reading.LineRole.{LineRole}
+use Rattle.rz_script.specs.declared.reading.LineRole.TheVariants as heads
 use Rattle.rz_script.specs.declared.fault.ScriptError.{ScriptError}
 use Rattle.rz_script.specs.declared.fault.ScriptError.TheVariants as errors
 use Rattle.rz_script.specs.Scripts.{Script, no_lines}
@@ -177,14 +177,14 @@ unfoldable pub given : ℕ → List ℕ → (Volume → Result (List Line) Scrip
 given n json others = described n json (words json) others
 
 -- whether a line is passed over, gives the volume, or is another
-unfoldable pub head : List Word → Head
+unfoldable pub head : List Word → LineRole
 head [] = heads.Passed
 head (w ∷ ws) =
     if slice_index w 0 == 35 then heads.Passed
     else if bytes_eq w (codes "volume") then heads.Volume
     else heads.Other
 
-abbrev pub by_head : {A : Type 0} → Head → A → A → A → A
+abbrev pub by_head : {A : Type 0} → LineRole → A → A → A → A
 by_head heads.Passed passed volume other = passed
 by_head heads.Volume passed volume other = volume
 by_head heads.Other passed volume other = other

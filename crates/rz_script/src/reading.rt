@@ -15,7 +15,7 @@ use std::alloc::Global;
 
 /// What a line is to the head of a script.
 #[derive(Clone, Copy, Drop)]
-pub enum Head {
+pub enum LineRole {
     /// It has no word, or is a comment.
     Passed,
     /// It gives the volume.
@@ -141,14 +141,14 @@ fn with_plain_volume(
 
 /// What a line is to the head.
 #[tactic(auto, unfolding(crate::specs::Grammar::head))]
-fn head_of(text: &str) -> Head
+fn head_of(text: &str) -> LineRole
     ensures { result ≡ head (words text.now) }
 {
     match Words::of(text).next() {
-        Err(_) => Head::Passed,
-        Ok(first) if first.starts_with('#') => Head::Passed,
-        Ok("volume") => Head::Volume,
-        Ok(_) => Head::Other,
+        Err(_) => LineRole::Passed,
+        Ok(first) if first.starts_with('#') => LineRole::Passed,
+        Ok("volume") => LineRole::Volume,
+        Ok(_) => LineRole::Other,
     }
 }
 
@@ -161,17 +161,17 @@ fn read_headed(alloc: Global, form: Form, text: &str) -> Result<(Volume, Vec<Lin
     let mut number: u64 = 1;
     while let Some((line, after)) = cut(rest, '\n') {
         match head_of(line) {
-            Head::Passed => {}
-            Head::Volume => return with_volume(alloc, form, number, line, after),
-            Head::Other => return with_plain_volume(alloc, form, number, rest),
+            LineRole::Passed => {}
+            LineRole::Volume => return with_volume(alloc, form, number, line, after),
+            LineRole::Other => return with_plain_volume(alloc, form, number, rest),
         }
         rest = after;
         number += 1;
     }
     match head_of(rest) {
-        Head::Passed => with_plain_volume(alloc, form, number, ""),
-        Head::Volume => with_volume(alloc, form, number, rest, ""),
-        Head::Other => with_plain_volume(alloc, form, number, rest),
+        LineRole::Passed => with_plain_volume(alloc, form, number, ""),
+        LineRole::Volume => with_volume(alloc, form, number, rest, ""),
+        LineRole::Other => with_plain_volume(alloc, form, number, rest),
     }
 }
 

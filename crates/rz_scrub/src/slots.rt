@@ -12,7 +12,7 @@ use std::marker::Model;
 
 /// Room for the bins at a position.
 #[derive(Drop)]
-pub struct Slot {
+pub struct BinSlot {
     is_added: bool,
     bins: Vec<u64>,
 }
@@ -23,7 +23,7 @@ pub struct Slot {
 #[derive(Drop)]
 pub struct Slots {
     layout: Layout,
-    slots: Vec<Slot>,
+    slots: Vec<BinSlot>,
 }
 
 impl Model for Slots {
@@ -112,14 +112,14 @@ impl Slots {
 }
 
 /// A slot without bins for each position.
-fn empty_slots(alloc: Global, layout: Layout) -> Result<Vec<Slot>, AllocError>
+fn empty_slots(alloc: Global, layout: Layout) -> Result<Vec<BinSlot>, AllocError>
     ensures slots { IfOk result (λ v. IsSlots layout v.items) }
     ensures empty { IfOk result (λ v. All (λ slot. bins_in slot ≡ None) v.items) }
 {
     let mut slots = Vec::with_capacity(alloc, layout.safe())?;
     for position in 0..layout.safe() as u8 {
         let bins = vec![in alloc; 0u64; layout.bins_at(position)]?;
-        slots.push(Slot {
+        slots.push(BinSlot {
             is_added: false,
             bins,
         })?;
@@ -128,7 +128,7 @@ fn empty_slots(alloc: Global, layout: Layout) -> Result<Vec<Slot>, AllocError>
 }
 
 /// Takes the bins out of all slots.
-fn empty(slots: &mut Vec<Slot>)
+fn empty(slots: &mut Vec<BinSlot>)
     ensures len { vec_len slots.new ≡ vec_len slots.old }
     ensures rooms { (layout : Layout) → IsSlots layout slots.old.items → IsSlots layout slots.new.items }
     ensures empty { All (λ slot. bins_in slot ≡ None) slots.new.items }
@@ -139,7 +139,7 @@ fn empty(slots: &mut Vec<Slot>)
 }
 
 /// Puts bins into a slot with room for as many.
-fn fill(slot: &mut Slot, bins: &[u64])
+fn fill(slot: &mut BinSlot, bins: &[u64])
     requires { length bins.now ≡ vec_len slot.old.bins }
     ensures bins { bins_in slot.new ≡ Some bins.now }
     ensures room { vec_len slot.new.bins ≡ vec_len slot.old.bins }

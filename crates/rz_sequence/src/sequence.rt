@@ -14,13 +14,13 @@ use std::{fmt, mem};
 #[cycle(sequence)]
 #[derive(Drop)]
 pub struct Sequence<T: Mark> {
-    root: Option<Box<Node<T>>>,
+    root: Option<Box<TreeNode<T>>>,
 }
 
 // An item with those before and behind it.
 #[cycle(sequence)]
 #[derive(Drop)]
-struct Node<T: Mark> {
+struct TreeNode<T: Mark> {
     left: Sequence<T>,
     item: T,
     right: Sequence<T>,
@@ -43,7 +43,7 @@ impl<T: Mark> Model for Sequence<T> {
     ghost size_decreases = { λ a h. Prim.grind arith };
 }
 
-impl<T: Mark> Model for Node<T> {
+impl<T: Mark> Model for TreeNode<T> {
     ghost use Rattle.std.specs.Prelude.{◌≡◌, List, length, ◌∷◌, ◌++◌, ◌*◌};
     ghost use Rattle.std.specs.List.{list_any};
     ghost use Rattle.rz_sequence.specs.Trees.{IsRight};
@@ -84,7 +84,7 @@ impl<T: Mark> Sequence<T> {
         match &self.root {
             None => 0,
             Some(node) => {
-                let node: &Node<T> = node;
+                let node: &TreeNode<T> = node;
                 node.len
             }
         }
@@ -97,7 +97,7 @@ impl<T: Mark> Sequence<T> {
         match &self.root {
             None => false,
             Some(node) => {
-                let node: &Node<T> = node;
+                let node: &TreeNode<T> = node;
                 node.marked
             }
         }
@@ -108,7 +108,7 @@ impl<T: Mark> Sequence<T> {
         match &self.root {
             None => 0,
             Some(node) => {
-                let node: &Node<T> = node;
+                let node: &TreeNode<T> = node;
                 node.height
             }
         }
@@ -121,7 +121,7 @@ impl<T: Mark> Sequence<T> {
         match &self.root {
             None => None,
             Some(node) => {
-                let node: &Node<T> = node;
+                let node: &TreeNode<T> = node;
                 Some(Fork {
                     left: &node.left,
                     item: &node.item,
@@ -181,7 +181,7 @@ impl<T: Mark> Sequence<T> {
         if self.len() == usize::MAX {
             return Err(AllocError);
         }
-        let middle = Box::new(alloc, Node::leaf(item))?;
+        let middle = Box::new(alloc, TreeNode::leaf(item))?;
         let (before, behind) = mem::replace(self, Sequence::new()).split(at);
         *self = joined(before, middle, behind);
         Ok(())
@@ -203,7 +203,7 @@ impl<T: Mark> Sequence<T> {
         ensures { self.new ≡ take at self.old ++ item ∷ drop (suc at) self.old }
     {
         if let Some(node) = &mut self.root {
-            let node: &mut Node<T> = node;
+            let node: &mut TreeNode<T> = node;
             node.replace(at, item);
         }
     }
@@ -273,7 +273,7 @@ impl<T: Mark> Sequence<T> {
     }
 
     // The first item, and the others.
-    fn split_first(self) -> Option<(Box<Node<T>>, Sequence<T>)>
+    fn split_first(self) -> Option<(Box<TreeNode<T>>, Sequence<T>)>
         ensures { MatchOption result (self ≡ []) (λ p. (self ≡ p.0.value ++ p.1) × (length p.0.value ≡ 1)) }
     {
         let parts = self.expose()?;
@@ -288,17 +288,17 @@ impl<T: Mark> Sequence<T> {
 #[derive(Drop)]
 struct SequenceParts<T: Mark> {
     left: Sequence<T>,
-    middle: Box<Node<T>>,
+    middle: Box<TreeNode<T>>,
     right: Sequence<T>,
 }
 
-impl<T: Mark> Node<T> {
+impl<T: Mark> TreeNode<T> {
     // A node with nothing below it.
-    fn leaf(item: T) -> Node<T>
+    fn leaf(item: T) -> TreeNode<T>
         ensures { result ≡ item ∷ [] }
     {
         let marked = item.is_marked();
-        Node {
+        TreeNode {
             left: Sequence::new(),
             item,
             right: Sequence::new(),
@@ -354,7 +354,11 @@ impl<T: Mark> Node<T> {
 }
 
 // The sequence with these sides.
-fn linked<T: Mark>(left: Sequence<T>, mut middle: Box<Node<T>>, right: Sequence<T>) -> Sequence<T>
+fn linked<T: Mark>(
+    left: Sequence<T>,
+    mut middle: Box<TreeNode<T>>,
+    right: Sequence<T>,
+) -> Sequence<T>
     requires one { length middle.value ≡ 1 }
     requires fits { length left + 1 + length right < 2 ^ 64 }
     ensures { result ≡ left ++ middle.value ++ right }
@@ -364,7 +368,7 @@ fn linked<T: Mark>(left: Sequence<T>, mut middle: Box<Node<T>>, right: Sequence<
 }
 
 // The same where one side may be two levels higher than the other.
-fn balanced<T: Mark>(left: Sequence<T>, middle: Box<Node<T>>, right: Sequence<T>) -> Sequence<T>
+fn balanced<T: Mark>(left: Sequence<T>, middle: Box<TreeNode<T>>, right: Sequence<T>) -> Sequence<T>
     requires one { length middle.value ≡ 1 }
     requires fits { length left + 1 + length right < 2 ^ 64 }
     ensures { result ≡ left ++ middle.value ++ right }
@@ -386,7 +390,7 @@ fn is_higher<T: Mark>(side: &Sequence<T>, other: &Sequence<T>) -> bool {
 // The same where the left side is two levels higher.
 fn rotated_right<T: Mark>(
     left: Sequence<T>,
-    middle: Box<Node<T>>,
+    middle: Box<TreeNode<T>>,
     right: Sequence<T>,
 ) -> Sequence<T>
     requires one { length middle.value ≡ 1 }
@@ -414,7 +418,11 @@ fn rotated_right<T: Mark>(
 }
 
 // The same where the right side is two levels higher.
-fn rotated_left<T: Mark>(left: Sequence<T>, middle: Box<Node<T>>, right: Sequence<T>) -> Sequence<T>
+fn rotated_left<T: Mark>(
+    left: Sequence<T>,
+    middle: Box<TreeNode<T>>,
+    right: Sequence<T>,
+) -> Sequence<T>
     requires one { length middle.value ≡ 1 }
     requires fits { length left + 1 + length right < 2 ^ 64 }
     ensures { result ≡ left ++ middle.value ++ right }
@@ -440,7 +448,7 @@ fn rotated_left<T: Mark>(left: Sequence<T>, middle: Box<Node<T>>, right: Sequenc
 }
 
 // The same whatever the heights: it goes down the higher side.
-fn joined<T: Mark>(left: Sequence<T>, middle: Box<Node<T>>, right: Sequence<T>) -> Sequence<T>
+fn joined<T: Mark>(left: Sequence<T>, middle: Box<TreeNode<T>>, right: Sequence<T>) -> Sequence<T>
     requires one { length middle.value ≡ 1 }
     requires fits { length left + 1 + length right < 2 ^ 64 }
     ensures { result ≡ left ++ middle.value ++ right }

@@ -8,7 +8,7 @@ ghost use Rattle.rz_writer.specs.Machine.{IsAskOf};
 
 use crate::outcomes::{is_kept, mask_of, why_of};
 use mj_angles::Layout;
-use rz_client_model::{Sent, WriteStage, WriterState};
+use rz_client_model::{SentRecords, WriteStage, WriterState};
 use rz_events::{Why, WriteEnd, WriterAnswer, WriterAsk};
 
 /// What the write asks next.
@@ -27,7 +27,7 @@ pub fn ask(state: &WriterState) -> WriterAsk
 }
 
 /// A keep at the next position, or the publish once enough nodes have the record.
-fn ask_of(state: &WriterState, sent: &Sent) -> WriterAsk
+fn ask_of(state: &WriterState, sent: &SentRecords) -> WriterAsk
     requires places { length state.now.places ≡ safe_of state.now.layout }
     requires within { IsWithin state.now.layout (WriteStage.Sending sent.now) }
     ensures value { result ≡ ask_at state.now (WriteStage.Sending sent.now) }
@@ -77,10 +77,10 @@ fn after_begin(layout: Layout, answer: WriterAnswer) -> WriteStage
 }
 
 /// No record was sent yet.
-fn none_sent(stamp: u64, base: u64) -> Sent
+fn none_sent(stamp: u64, base: u64) -> SentRecords
     ensures { result ≡ none_sent stamp base }
 {
-    Sent {
+    SentRecords {
         stamp,
         base,
         kept: 0,
@@ -90,7 +90,7 @@ fn none_sent(stamp: u64, base: u64) -> Sent
 }
 
 /// How far the write has come after the answer to a keep or a publish.
-fn after_sent(state: &WriterState, sent: Sent, answer: WriterAnswer) -> WriteStage
+fn after_sent(state: &WriterState, sent: SentRecords, answer: WriterAnswer) -> WriteStage
     requires within { IsWithin state.now.layout (WriteStage.Sending sent) }
     requires asked { IsWriterAnswer (ask_at state.now (WriteStage.Sending sent)) answer }
     ensures value { result ≡ after_answer state.now.layout (WriteStage.Sending sent) answer }
@@ -111,7 +111,7 @@ fn after_sent(state: &WriterState, sent: Sent, answer: WriterAnswer) -> WriteSta
 }
 
 /// How far the write has come once it knows what came of the next position.
-fn after_keep(layout: Layout, mut sent: Sent, why: Why) -> WriteStage
+fn after_keep(layout: Layout, mut sent: SentRecords, why: Why) -> WriteStage
     requires more { sent.kept < forward_of layout }
     requires spare { sent.failed + forward_of layout ≤ safe_of layout }
     requires base { sent.base < sent.stamp }
@@ -129,7 +129,7 @@ fn after_keep(layout: Layout, mut sent: Sent, why: Why) -> WriteStage
 }
 
 /// How far the write has come once a position of its mask has failed after all.
-fn after_enrolled(layout: Layout, mut sent: Sent, position: u8) -> WriteStage
+fn after_enrolled(layout: Layout, mut sent: SentRecords, position: u8) -> WriteStage
     requires some { 0 < sent.kept }
     requires few { sent.kept ≤ forward_of layout }
     requires spare { sent.failed + forward_of layout ≤ safe_of layout }
@@ -145,7 +145,7 @@ fn after_enrolled(layout: Layout, mut sent: Sent, position: u8) -> WriteStage
 }
 
 /// The end of a write of which more positions have failed than there are spare ones.
-fn unless_too_few(layout: Layout, sent: Sent) -> WriteStage
+fn unless_too_few(layout: Layout, sent: SentRecords) -> WriteStage
     requires few { sent.kept ≤ forward_of layout }
     requires base { sent.base < sent.stamp }
     ensures value { result ≡ unless_too_few layout sent }

@@ -4,7 +4,7 @@ use Rattle.std.proofs.lemmas.List.{with_items_is}
 use Rattle.rz_disk.specs.Images.{window}
 use Rattle.rz_disk.specs.Meter.{Rises}
 use Rattle.rz_disk.proofs.Passes.{took_failed, took_one, took_then}
-use Rattle.rz_cells_slots.specs.declared.geometry.Version.TheVariants.{One}
+use Rattle.rz_cells_slots.specs.declared.geometry.DiskVersion.TheVariants.{One}
 use Rattle.rz_cells_slots.specs.Stands.{IsFormatted, IsHeaderOf}
 use Rattle.rz_cells_slots.specs.Old.{old_disk_bytes}
 use Rattle.rz_cells_slots.specs.OldOpening.{OldCellsFault, OldKnows, old_opening_calls}

@@ -4,7 +4,7 @@ use Rattle.std.proofs.lemmas.List.{with_items_is}
 use Rattle.rz_disk.specs.Images.{window}
 use Rattle.rz_disk.specs.Meter.{Rises}
 use Rattle.rz_disk.proofs.Passes.{took_failed, took_one, took_then}
-use Rattle.rz_cells_slots.specs.declared.geometry.Version.TheVariants.{Two}
+use Rattle.rz_cells_slots.specs.declared.geometry.DiskVersion.TheVariants.{Two}
 use Rattle.rz_cells_slots.specs.Open.{Knows}
 use Rattle.rz_cells_slots.specs.Shape.{disk_bytes}
 use Rattle.rz_cells_slots.specs.Stands.{IsHeader, IsFormatted}

@@ -1,5 +1,5 @@
 use Rattle.std.proofs.Common.{arith}
-use Rattle.rz_index.specs.declared.nodes.Node.{Node}
+use Rattle.rz_index.specs.declared.nodes.IndexNode.{IndexNode}
 use Rattle.rz_index.specs.Standing.{IsNode}
 use Rattle.rz_index.proofs.Rotations.{none}
 use Rattle.rz_index.proofs.Standing.{bare, parted, read, some-link}
@@ -8,7 +8,7 @@ use Rattle.rz_index.proofs.nodes.sides.Goals.{then-link-eq0-via-then-link-eq0, t
 
 pub returns-then-link-eq0 : goal.returns-then-link-eq0
 returns-then-link-eq0 c = λ entries parts h.
-    let nowhere : (node : Node) → ¬ IsNode c.args.row.now c.args.link node =
+    let nowhere : (node : IndexNode) → ¬ IsNode c.args.row.now c.args.link node =
     elim c.then-link-eq0.branch [
       | then-link-eq0-via-then-link-eq0 w ↦ λ node is. omega (arith, w.if-link-eq0.true, is.linked)
       | then-link-eq0-via-else-link-eq0+then-link-row w ↦ λ node is. omega (arith, w.if-link-row.true, is.within)

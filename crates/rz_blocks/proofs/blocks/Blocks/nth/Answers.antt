@@ -6,7 +6,7 @@ use Rattle.std.specs.FinMap as maps
 use Rattle.rz_events.specs.declared.keys.Key.{Key}
 use Rattle.rz_events.specs.declared.files.Published.{Published}
 use Rattle.rz_export_model.specs.Export.{Block}
-use Rattle.rz_blocks.specs.declared.blocks.Entry.{Entry}
+use Rattle.rz_blocks.specs.declared.blocks.BlockEntry.{BlockEntry}
 use Rattle.rz_blocks.specs.Shown.{shown, nth_entry}
 use Rattle.rz_blocks.proofs.Shows.{Kept, entries-shown}
 use Rattle.rz_blocks.proofs.blocks.Blocks.nth.Goals as goal
@@ -15,7 +15,7 @@ use Rattle.rz_blocks.proofs.blocks.Blocks.nth.Goals as goal
 abbrev told : Key × Block → Key × ℕ × Option Published
 told e = (e.0, e.1.latest, e.1.published)
 
-abbrev seen : Key × Entry → Key × Block
+abbrev seen : Key × BlockEntry → Key × Block
 seen e = (e.0, shown e.1)
 
 pub returns-in_err-key : goal.returns-in_err-key

@@ -3,7 +3,7 @@ use Rattle.std.proofs.Common.{rules, ◌≡◌, ◌+◌, ◌≤◌, List, [], �
 use Rattle.std.specs.VecDeque.{deque_len, deque_capacity}
 use Rattle.std.specs.FinMap as maps
 use Rattle.rz_index.specs.declared.index.Entry.{Entry}
-use Rattle.rz_index.specs.declared.nodes.Node.{Node}
+use Rattle.rz_index.specs.declared.nodes.IndexNode.{IndexNode}
 use Rattle.rz_index.specs.Indexed.{IsSorted}
 use Rattle.rz_index.specs.Standing.{Tree, Holds, entries_below}
 use Rattle.rz_index.specs.Spares.{IsIndex}
@@ -22,17 +22,17 @@ invariant_of-result c =
     let its = c.deref.result.now in
     let old = c.spare.inside.row.items in
     let new = c.planted-root.new.row in
-    let h = subst (λ (row : List Node). Holds row (Tree c.spare.inside.link i.blanks ∷ [])) (sym c.deref_mut.ensures.value) i.holds in
+    let h = subst (λ (row : List IndexNode). Holds row (Tree c.spare.inside.link i.blanks ∷ [])) (sym c.deref_mut.ensures.value) i.holds in
     let long : length new ≡ length old = c.planted-root.auto.row ∙ ap length c.deref_mut.ensures.value in
     let all : c.spare.inside.row.len ≡ length old = sym c.deref_mut.ensures.len ∙ ap length c.deref_mut.ensures.value in
     let row = whole new old c.spare.inside.row.len long all in
     let many : length its + deque_len c.args.free ≤ length i.blanks = omega (arith, c.deref.ensures.len, c.sort_unstable_by_key.ensures.len, c.requires.room, c.spare.view_is, i.count) in
     let p = c.planted-root.ensures i.blanks h (omega (arith, many)) (omega (arith, i.count, i.within, c.len-room.ensures, all)) in
     let made_is : made (entries_below (length (take c.spare.inside.row.len (new ++ drop (length new) old))) (take c.spare.inside.row.len (new ++ drop (length new) old)) c.planted-root.result.0) ≡ made fs =
-    ap (λ (xs : List Node). made (entries_below (length xs) xs c.planted-root.result.0)) row
+    ap (λ (xs : List IndexNode). made (entries_below (length xs) xs c.planted-root.result.0)) row
     ∙ made-below new c.planted-root.result.0 its (Tree c.planted-root.result.1 p.left ∷ []) p.holds (omega (arith, p.count, long, i.count, i.within)) ∙ ap made c.deref.ensures.value
     in
-    subst (λ (xs : List Node). IsIndex xs c.planted-root.result.0 c.planted-root.result.1 (deque_len c.args.free) (deque_capacity c.args.free)) (sym row)
+    subst (λ (xs : List IndexNode). IsIndex xs c.planted-root.result.0 c.planted-root.result.1 (deque_len c.args.free) (deque_capacity c.args.free)) (sym row)
     record {
       entries = its;
       blanks = p.left;
@@ -52,14 +52,14 @@ returns-clause-has c e there =
     let its = c.deref.result.now in
     let old = c.spare.inside.row.items in
     let new = c.planted-root.new.row in
-    let h = subst (λ (row : List Node). Holds row (Tree c.spare.inside.link i.blanks ∷ [])) (sym c.deref_mut.ensures.value) i.holds in
+    let h = subst (λ (row : List IndexNode). Holds row (Tree c.spare.inside.link i.blanks ∷ [])) (sym c.deref_mut.ensures.value) i.holds in
     let long : length new ≡ length old = c.planted-root.auto.row ∙ ap length c.deref_mut.ensures.value in
     let all : c.spare.inside.row.len ≡ length old = sym c.deref_mut.ensures.len ∙ ap length c.deref_mut.ensures.value in
     let row = whole new old c.spare.inside.row.len long all in
     let many : length its + deque_len c.args.free ≤ length i.blanks = omega (arith, c.deref.ensures.len, c.sort_unstable_by_key.ensures.len, c.requires.room, c.spare.view_is, i.count) in
     let p = c.planted-root.ensures i.blanks h (omega (arith, many)) (omega (arith, i.count, i.within, c.len-room.ensures, all)) in
     let made_is : made (entries_below (length (take c.spare.inside.row.len (new ++ drop (length new) old))) (take c.spare.inside.row.len (new ++ drop (length new) old)) c.planted-root.result.0) ≡ made fs =
-    ap (λ (xs : List Node). made (entries_below (length xs) xs c.planted-root.result.0)) row
+    ap (λ (xs : List IndexNode). made (entries_below (length xs) xs c.planted-root.result.0)) row
     ∙ made-below new c.planted-root.result.0 its (Tree c.planted-root.result.1 p.left ∷ []) p.holds (omega (arith, p.count, long, i.count, i.within)) ∙ ap made c.deref.ensures.value
     in
     ap (λ m. maps.get m e.key) made_is ∙ made-has fs e sorted (Contains-permutation es fs e c.sort_unstable_by_key.ensures.permutation there)
@@ -73,14 +73,14 @@ returns-clause-only c key e is =
     let its = c.deref.result.now in
     let old = c.spare.inside.row.items in
     let new = c.planted-root.new.row in
-    let h = subst (λ (row : List Node). Holds row (Tree c.spare.inside.link i.blanks ∷ [])) (sym c.deref_mut.ensures.value) i.holds in
+    let h = subst (λ (row : List IndexNode). Holds row (Tree c.spare.inside.link i.blanks ∷ [])) (sym c.deref_mut.ensures.value) i.holds in
     let long : length new ≡ length old = c.planted-root.auto.row ∙ ap length c.deref_mut.ensures.value in
     let all : c.spare.inside.row.len ≡ length old = sym c.deref_mut.ensures.len ∙ ap length c.deref_mut.ensures.value in
     let row = whole new old c.spare.inside.row.len long all in
     let many : length its + deque_len c.args.free ≤ length i.blanks = omega (arith, c.deref.ensures.len, c.sort_unstable_by_key.ensures.len, c.requires.room, c.spare.view_is, i.count) in
     let p = c.planted-root.ensures i.blanks h (omega (arith, many)) (omega (arith, i.count, i.within, c.len-room.ensures, all)) in
     let made_is : made (entries_below (length (take c.spare.inside.row.len (new ++ drop (length new) old))) (take c.spare.inside.row.len (new ++ drop (length new) old)) c.planted-root.result.0) ≡ made fs =
-    ap (λ (xs : List Node). made (entries_below (length xs) xs c.planted-root.result.0)) row
+    ap (λ (xs : List IndexNode). made (entries_below (length xs) xs c.planted-root.result.0)) row
     ∙ made-below new c.planted-root.result.0 its (Tree c.planted-root.result.1 p.left ∷ []) p.holds (omega (arith, p.count, long, i.count, i.within)) ∙ ap made c.deref.ensures.value
     in
     let found = made-only fs key e sorted (ap (λ m. maps.get m key) (sym made_is) ∙ is) in
@@ -95,14 +95,14 @@ returns-clause-count c =
     let its = c.deref.result.now in
     let old = c.spare.inside.row.items in
     let new = c.planted-root.new.row in
-    let h = subst (λ (row : List Node). Holds row (Tree c.spare.inside.link i.blanks ∷ [])) (sym c.deref_mut.ensures.value) i.holds in
+    let h = subst (λ (row : List IndexNode). Holds row (Tree c.spare.inside.link i.blanks ∷ [])) (sym c.deref_mut.ensures.value) i.holds in
     let long : length new ≡ length old = c.planted-root.auto.row ∙ ap length c.deref_mut.ensures.value in
     let all : c.spare.inside.row.len ≡ length old = sym c.deref_mut.ensures.len ∙ ap length c.deref_mut.ensures.value in
     let row = whole new old c.spare.inside.row.len long all in
     let many : length its + deque_len c.args.free ≤ length i.blanks = omega (arith, c.deref.ensures.len, c.sort_unstable_by_key.ensures.len, c.requires.room, c.spare.view_is, i.count) in
     let p = c.planted-root.ensures i.blanks h (omega (arith, many)) (omega (arith, i.count, i.within, c.len-room.ensures, all)) in
     let made_is : made (entries_below (length (take c.spare.inside.row.len (new ++ drop (length new) old))) (take c.spare.inside.row.len (new ++ drop (length new) old)) c.planted-root.result.0) ≡ made fs =
-    ap (λ (xs : List Node). made (entries_below (length xs) xs c.planted-root.result.0)) row
+    ap (λ (xs : List IndexNode). made (entries_below (length xs) xs c.planted-root.result.0)) row
     ∙ made-below new c.planted-root.result.0 its (Tree c.planted-root.result.1 p.left ∷ []) p.holds (omega (arith, p.count, long, i.count, i.within)) ∙ ap made c.deref.ensures.value
     in
     ap maps.len made_is ∙ made-count fs sorted ∙ length_permutation es fs c.sort_unstable_by_key.ensures.permutation ∙ omega arith

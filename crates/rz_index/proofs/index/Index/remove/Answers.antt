@@ -4,7 +4,7 @@ use Rattle.std.specs.FinMap as maps
 use Rattle.std.specs.FinMap.Entries.{find}
 use Rattle.rz_events.specs.Keys.{key_cmp}
 use Rattle.rz_index.specs.declared.index.Entry.{Entry}
-use Rattle.rz_index.specs.declared.nodes.Node.{Node}
+use Rattle.rz_index.specs.declared.nodes.IndexNode.{IndexNode}
 use Rattle.rz_index.specs.Indexed.{Indexed, pairs_of, freed_by}
 use Rattle.rz_index.specs.Standing.{Part, Tree, Holds, entries_below}
 use Rattle.rz_index.specs.Spares.{IsIndex, number_of}
@@ -21,7 +21,7 @@ invariant_of-self c =
     let old = c.self.inside.row.items in
     let new = c.removed-root.new.row in
     let parts : List Part = Tree c.self.inside.spare i.blanks ∷ [] in
-    let h = subst (λ (row : List Node). Holds row (Tree c.self.inside.root es ∷ parts)) (sym c.deref_mut.ensures.value) i.holds in
+    let h = subst (λ (row : List IndexNode). Holds row (Tree c.self.inside.root es ∷ parts)) (sym c.deref_mut.ensures.value) i.holds in
     let room = c.len-room.ensures in
     let long : length new ≡ length old = c.removed-root.auto.row ∙ ap length c.deref_mut.ensures.value in
     let all : c.self.inside.row.len ≡ length old = sym c.deref_mut.ensures.len ∙ ap length c.deref_mut.ensures.value in
@@ -33,7 +33,7 @@ invariant_of-self c =
     let one : number_of o ≡ 1 = ap number_of e.1 in
     let fewer : 1 + length r.its ≡ length es = ap (λ (x : Option Entry). cond (is_some x) 1 0 + length r.its) (sym e.1) ∙ take-length k es r.its i.sorted r.are in
     let more = at_most (is_ok c.push_back-fits.result) (deque_len c.self.inside.free) (deque_len c.push_back-fits.new.self) c.push_back-fits.ensures.len in
-    subst (λ (xs : List Node). IsIndex xs c.removed-root.result.0 c.removed-root.result.1 (deque_len c.push_back-fits.new.self) (deque_capacity c.push_back-fits.new.self)) (sym row)
+    subst (λ (xs : List IndexNode). IsIndex xs c.removed-root.result.0 c.removed-root.result.1 (deque_len c.push_back-fits.new.self) (deque_capacity c.push_back-fits.new.self)) (sym row)
     record {
       entries = r.its;
       blanks = r.left;
@@ -52,7 +52,7 @@ invariant_of-self-in_default c =
     let old = c.self.inside.row.items in
     let new = c.removed-root.new.row in
     let parts : List Part = Tree c.self.inside.spare i.blanks ∷ [] in
-    let h = subst (λ (row : List Node). Holds row (Tree c.self.inside.root es ∷ parts)) (sym c.deref_mut.ensures.value) i.holds in
+    let h = subst (λ (row : List IndexNode). Holds row (Tree c.self.inside.root es ∷ parts)) (sym c.deref_mut.ensures.value) i.holds in
     let room = c.len-room.ensures in
     let long : length new ≡ length old = c.removed-root.auto.row ∙ ap length c.deref_mut.ensures.value in
     let all : c.self.inside.row.len ≡ length old = sym c.deref_mut.ensures.len ∙ ap length c.deref_mut.ensures.value in
@@ -63,7 +63,7 @@ invariant_of-self-in_default c =
     let gone : o ≡ None = no-cell o (sym c.in_default.is ∙ r.freed) in
     let naught : number_of o ≡ 0 = ap number_of gone in
     let same : 0 + length r.its ≡ length es = ap (λ (x : Option Entry). cond (is_some x) 1 0 + length r.its) (sym gone) ∙ take-length k es r.its i.sorted r.are in
-    subst (λ (xs : List Node). IsIndex xs c.removed-root.result.0 c.removed-root.result.1 (deque_len c.self.inside.free) (deque_capacity c.self.inside.free)) (sym row)
+    subst (λ (xs : List IndexNode). IsIndex xs c.removed-root.result.0 c.removed-root.result.1 (deque_len c.self.inside.free) (deque_capacity c.self.inside.free)) (sym row)
     record {
       entries = r.its;
       blanks = r.left;
@@ -82,7 +82,7 @@ returns-in-Some-clause-entries c =
     let old = c.self.inside.row.items in
     let new = c.removed-root.new.row in
     let parts : List Part = Tree c.self.inside.spare i.blanks ∷ [] in
-    let h = subst (λ (row : List Node). Holds row (Tree c.self.inside.root es ∷ parts)) (sym c.deref_mut.ensures.value) i.holds in
+    let h = subst (λ (row : List IndexNode). Holds row (Tree c.self.inside.root es ∷ parts)) (sym c.deref_mut.ensures.value) i.holds in
     let room = c.len-room.ensures in
     let long : length new ≡ length old = c.removed-root.auto.row ∙ ap length c.deref_mut.ensures.value in
     let all : c.self.inside.row.len ≡ length old = sym c.deref_mut.ensures.len ∙ ap length c.deref_mut.ensures.value in
@@ -93,7 +93,7 @@ returns-in-Some-clause-entries c =
     let e = its-cell o c.in-Some.cell (sym c.in-Some.is ∙ r.freed) in
     let one : number_of o ≡ 1 = ap number_of e.1 in
     let fewer : 1 + length r.its ≡ length es = ap (λ (x : Option Entry). cond (is_some x) 1 0 + length r.its) (sym e.1) ∙ take-length k es r.its i.sorted r.are in
-    ap (λ (xs : List Node). made (entries_below (length xs) xs c.removed-root.result.0)) row
+    ap (λ (xs : List IndexNode). made (entries_below (length xs) xs c.removed-root.result.0)) row
     ∙ made-below new c.removed-root.result.0 r.its (Tree c.removed-root.result.1 r.left ∷ []) r.holds (omega (arith, fewer, long, i.within))
     ∙ made-take k es r.its i.sorted r.are ∙ ap (λ (xs : List Entry). maps.remove (made xs) k) (sym (shows _ _ _ _ _ i)) ∙ ap (λ (s : Indexed). maps.remove s.entries k) c.self.view_is
 
@@ -105,7 +105,7 @@ returns-in-Some-clause-free c =
     let old = c.self.inside.row.items in
     let new = c.removed-root.new.row in
     let parts : List Part = Tree c.self.inside.spare i.blanks ∷ [] in
-    let h = subst (λ (row : List Node). Holds row (Tree c.self.inside.root es ∷ parts)) (sym c.deref_mut.ensures.value) i.holds in
+    let h = subst (λ (row : List IndexNode). Holds row (Tree c.self.inside.root es ∷ parts)) (sym c.deref_mut.ensures.value) i.holds in
     let room = c.len-room.ensures in
     let long : length new ≡ length old = c.removed-root.auto.row ∙ ap length c.deref_mut.ensures.value in
     let all : c.self.inside.row.len ≡ length old = sym c.deref_mut.ensures.len ∙ ap length c.deref_mut.ensures.value in
@@ -130,7 +130,7 @@ returns-in_default-clause-entries c =
     let old = c.self.inside.row.items in
     let new = c.removed-root.new.row in
     let parts : List Part = Tree c.self.inside.spare i.blanks ∷ [] in
-    let h = subst (λ (row : List Node). Holds row (Tree c.self.inside.root es ∷ parts)) (sym c.deref_mut.ensures.value) i.holds in
+    let h = subst (λ (row : List IndexNode). Holds row (Tree c.self.inside.root es ∷ parts)) (sym c.deref_mut.ensures.value) i.holds in
     let room = c.len-room.ensures in
     let long : length new ≡ length old = c.removed-root.auto.row ∙ ap length c.deref_mut.ensures.value in
     let all : c.self.inside.row.len ≡ length old = sym c.deref_mut.ensures.len ∙ ap length c.deref_mut.ensures.value in
@@ -141,7 +141,7 @@ returns-in_default-clause-entries c =
     let gone : o ≡ None = no-cell o (sym c.in_default.is ∙ r.freed) in
     let naught : number_of o ≡ 0 = ap number_of gone in
     let same : 0 + length r.its ≡ length es = ap (λ (x : Option Entry). cond (is_some x) 1 0 + length r.its) (sym gone) ∙ take-length k es r.its i.sorted r.are in
-    ap (λ (xs : List Node). made (entries_below (length xs) xs c.removed-root.result.0)) row
+    ap (λ (xs : List IndexNode). made (entries_below (length xs) xs c.removed-root.result.0)) row
     ∙ made-below new c.removed-root.result.0 r.its (Tree c.removed-root.result.1 r.left ∷ []) r.holds (omega (arith, same, long, i.within))
     ∙ made-take k es r.its i.sorted r.are ∙ ap (λ (xs : List Entry). maps.remove (made xs) k) (sym (shows _ _ _ _ _ i)) ∙ ap (λ (s : Indexed). maps.remove s.entries k) c.self.view_is
 
@@ -153,7 +153,7 @@ returns-in_default-clause-free c =
     let old = c.self.inside.row.items in
     let new = c.removed-root.new.row in
     let parts : List Part = Tree c.self.inside.spare i.blanks ∷ [] in
-    let h = subst (λ (row : List Node). Holds row (Tree c.self.inside.root es ∷ parts)) (sym c.deref_mut.ensures.value) i.holds in
+    let h = subst (λ (row : List IndexNode). Holds row (Tree c.self.inside.root es ∷ parts)) (sym c.deref_mut.ensures.value) i.holds in
     let room = c.len-room.ensures in
     let long : length new ≡ length old = c.removed-root.auto.row ∙ ap length c.deref_mut.ensures.value in
     let all : c.self.inside.row.len ≡ length old = sym c.deref_mut.ensures.len ∙ ap length c.deref_mut.ensures.value in

@@ -7,7 +7,7 @@ use Rattle.std.specs.FinMap as maps
 use Rattle.std.specs.FinMap.Entries.{find}
 use Rattle.rz_events.specs.Keys.{key_cmp}
 use Rattle.rz_index.specs.declared.index.Entry.{Entry}
-use Rattle.rz_index.specs.declared.nodes.Node.{Node}
+use Rattle.rz_index.specs.declared.nodes.IndexNode.{IndexNode}
 use Rattle.rz_index.specs.Indexed.{Indexed, pairs_of, taken_in}
 use Rattle.rz_index.specs.Standing.{Part, Tree, Holds, entries_below}
 use Rattle.rz_index.specs.Spares.{IsIndex}
@@ -27,21 +27,21 @@ invariant_of-self c =
     let o = find key_cmp x.key (pairs_of i.entries) in
     let sides : List Part = Tree c.self.inside.spare i.blanks ∷ [] in
     let all_of : vec_len c.self.inside.row ≡ length c.self.inside.row.items = sym c.deref.ensures.len ∙ ap length c.deref.ensures.value in
-    let found : c.find.result ≡ o = c.find.ensures i.entries sides (subst (λ (row : List Node). Holds row (Tree c.self.inside.root i.entries ∷ sides)) (sym c.deref.ensures.value) i.holds) i.sorted (omega (arith, i.within, c.len-room.ensures, all_of)) in
+    let found : c.find.result ≡ o = c.find.ensures i.entries sides (subst (λ (row : List IndexNode). Holds row (Tree c.self.inside.root i.entries ∷ sides)) (sym c.deref.ensures.value) i.holds) i.sorted (omega (arith, i.within, c.len-room.ensures, all_of)) in
     let held : is_some o ≡ true = ap is_some (sym found) ∙ sym c.is_some.ensures ∙ c.if-is_some.true in
     let es = i.entries in
     let free = c.self.inside.free.items in
     let old = c.self.inside.row.items in
     let new = c.replace-self-inside.new.row in
     let parts : List Part = Tree c.self.inside.spare i.blanks ∷ [] in
-    let h = subst (λ (row : List Node). Holds row (Tree c.self.inside.root es ∷ parts)) (sym c.deref_mut.ensures.value) i.holds in
+    let h = subst (λ (row : List IndexNode). Holds row (Tree c.self.inside.root es ∷ parts)) (sym c.deref_mut.ensures.value) i.holds in
     let room = c.len-room.ensures in
     let long : length new ≡ length old = c.replace-self-inside.auto.row ∙ ap length c.deref_mut.ensures.value in
     let all : c.self.inside.row.len ≡ length old = sym c.deref_mut.ensures.len ∙ ap length c.deref_mut.ensures.value in
     let row = whole new old c.self.inside.row.len long all in
     let r = c.replace-self-inside.ensures es parts h i.sorted (omega (arith, i.within, room, all)) (present o held) in
     let same : length r.its ≡ length es = put-length x es r.its i.sorted r.are ∙ ap (λ b. cond b (length es) (length es + 1)) held in
-    subst (λ (xs : List Node). IsIndex xs c.replace-self-inside.result c.self.inside.spare (deque_len c.self.inside.free) (deque_capacity c.self.inside.free)) (sym row)
+    subst (λ (xs : List IndexNode). IsIndex xs c.replace-self-inside.result c.self.inside.spare (deque_len c.self.inside.free) (deque_capacity c.self.inside.free)) (sym row)
     record {
       entries = r.its;
       blanks = i.blanks;
@@ -59,21 +59,21 @@ returns-then-is_some-clause-entries c =
     let o = find key_cmp x.key (pairs_of i.entries) in
     let sides : List Part = Tree c.self.inside.spare i.blanks ∷ [] in
     let all_of : vec_len c.self.inside.row ≡ length c.self.inside.row.items = sym c.deref.ensures.len ∙ ap length c.deref.ensures.value in
-    let found : c.find.result ≡ o = c.find.ensures i.entries sides (subst (λ (row : List Node). Holds row (Tree c.self.inside.root i.entries ∷ sides)) (sym c.deref.ensures.value) i.holds) i.sorted (omega (arith, i.within, c.len-room.ensures, all_of)) in
+    let found : c.find.result ≡ o = c.find.ensures i.entries sides (subst (λ (row : List IndexNode). Holds row (Tree c.self.inside.root i.entries ∷ sides)) (sym c.deref.ensures.value) i.holds) i.sorted (omega (arith, i.within, c.len-room.ensures, all_of)) in
     let held : is_some o ≡ true = ap is_some (sym found) ∙ sym c.is_some.ensures ∙ c.if-is_some.true in
     let es = i.entries in
     let free = c.self.inside.free.items in
     let old = c.self.inside.row.items in
     let new = c.replace-self-inside.new.row in
     let parts : List Part = Tree c.self.inside.spare i.blanks ∷ [] in
-    let h = subst (λ (row : List Node). Holds row (Tree c.self.inside.root es ∷ parts)) (sym c.deref_mut.ensures.value) i.holds in
+    let h = subst (λ (row : List IndexNode). Holds row (Tree c.self.inside.root es ∷ parts)) (sym c.deref_mut.ensures.value) i.holds in
     let room = c.len-room.ensures in
     let long : length new ≡ length old = c.replace-self-inside.auto.row ∙ ap length c.deref_mut.ensures.value in
     let all : c.self.inside.row.len ≡ length old = sym c.deref_mut.ensures.len ∙ ap length c.deref_mut.ensures.value in
     let row = whole new old c.self.inside.row.len long all in
     let r = c.replace-self-inside.ensures es parts h i.sorted (omega (arith, i.within, room, all)) (present o held) in
     let same : length r.its ≡ length es = put-length x es r.its i.sorted r.are ∙ ap (λ b. cond b (length es) (length es + 1)) held in
-    ap (λ (xs : List Node). made (entries_below (length xs) xs c.replace-self-inside.result)) row
+    ap (λ (xs : List IndexNode). made (entries_below (length xs) xs c.replace-self-inside.result)) row
     ∙ made-below new c.replace-self-inside.result r.its parts r.holds (omega (arith, same, long, i.within))
     ∙ made-put x es r.its i.sorted r.are ∙ ap (λ (xs : List Entry). maps.insert (made xs) x.key x) (sym (shows _ _ _ _ _ i)) ∙ ap (λ (s : Indexed). maps.insert s.entries x.key x) c.self.view_is
 
@@ -84,7 +84,7 @@ returns-then-is_some-clause-free c =
     let o = find key_cmp x.key (pairs_of i.entries) in
     let sides : List Part = Tree c.self.inside.spare i.blanks ∷ [] in
     let all_of : vec_len c.self.inside.row ≡ length c.self.inside.row.items = sym c.deref.ensures.len ∙ ap length c.deref.ensures.value in
-    let found : c.find.result ≡ o = c.find.ensures i.entries sides (subst (λ (row : List Node). Holds row (Tree c.self.inside.root i.entries ∷ sides)) (sym c.deref.ensures.value) i.holds) i.sorted (omega (arith, i.within, c.len-room.ensures, all_of)) in
+    let found : c.find.result ≡ o = c.find.ensures i.entries sides (subst (λ (row : List IndexNode). Holds row (Tree c.self.inside.root i.entries ∷ sides)) (sym c.deref.ensures.value) i.holds) i.sorted (omega (arith, i.within, c.len-room.ensures, all_of)) in
     let held : is_some o ≡ true = ap is_some (sym found) ∙ sym c.is_some.ensures ∙ c.if-is_some.true in
     let free = c.self.inside.free.items in
     sym (ap (λ (s : Indexed). taken_in (maps.get s.entries x.key) x.cell s.free) (sym c.self.view_is)
@@ -98,7 +98,7 @@ place_of-place-requires c =
     let o = find key_cmp x.key (pairs_of i.entries) in
     let sides : List Part = Tree c.self.inside.spare i.blanks ∷ [] in
     let all_of : vec_len c.self.inside.row ≡ length c.self.inside.row.items = sym c.deref.ensures.len ∙ ap length c.deref.ensures.value in
-    let found : c.find.result ≡ o = c.find.ensures i.entries sides (subst (λ (row : List Node). Holds row (Tree c.self.inside.root i.entries ∷ sides)) (sym c.deref.ensures.value) i.holds) i.sorted (omega (arith, i.within, c.len-room.ensures, all_of)) in
+    let found : c.find.result ≡ o = c.find.ensures i.entries sides (subst (λ (row : List IndexNode). Holds row (Tree c.self.inside.root i.entries ∷ sides)) (sym c.deref.ensures.value) i.holds) i.sorted (omega (arith, i.within, c.len-room.ensures, all_of)) in
     let missing : o ≡ None = absent o (ap is_some (sym found) ∙ sym c.is_some.ensures ∙ c.if-is_some.false) in
     let gone = ap (λ (s : Indexed). maps.get s.entries x.key) (sym c.self.view_is) ∙ ap (λ (xs : List Entry). maps.get (made xs) x.key) (shows _ _ _ _ _ i) ∙ get-made i.entries x.key i.sorted ∙ missing in
     let there = subst (λ y. MatchOption y (Contains c.args.self.now.free x.cell) (λ (e : Entry). e.cell ≡ x.cell)) gone c.requires in
@@ -111,14 +111,14 @@ invariant_of-self-else-is_some c =
     let o = find key_cmp x.key (pairs_of i.entries) in
     let sides : List Part = Tree c.self.inside.spare i.blanks ∷ [] in
     let all_of : vec_len c.self.inside.row ≡ length c.self.inside.row.items = sym c.deref.ensures.len ∙ ap length c.deref.ensures.value in
-    let found : c.find.result ≡ o = c.find.ensures i.entries sides (subst (λ (row : List Node). Holds row (Tree c.self.inside.root i.entries ∷ sides)) (sym c.deref.ensures.value) i.holds) i.sorted (omega (arith, i.within, c.len-room.ensures, all_of)) in
+    let found : c.find.result ≡ o = c.find.ensures i.entries sides (subst (λ (row : List IndexNode). Holds row (Tree c.self.inside.root i.entries ∷ sides)) (sym c.deref.ensures.value) i.holds) i.sorted (omega (arith, i.within, c.len-room.ensures, all_of)) in
     let missing : o ≡ None = absent o (ap is_some (sym found) ∙ sym c.is_some.ensures ∙ c.if-is_some.false) in
     let es = i.entries in
     let free = c.self.inside.free.items in
     let old = c.self.inside.row.items in
     let new = c.added-root.new.row in
     let parts : List Part = Tree c.self.inside.spare i.blanks ∷ [] in
-    let h = subst (λ (row : List Node). Holds row (Tree c.self.inside.root es ∷ parts)) (sym c.deref_mut-else-is_some.ensures.value) i.holds in
+    let h = subst (λ (row : List IndexNode). Holds row (Tree c.self.inside.root es ∷ parts)) (sym c.deref_mut-else-is_some.ensures.value) i.holds in
     let room = c.len-room.ensures in
     let long : length new ≡ length old = c.added-root.auto.row ∙ ap length c.deref_mut-else-is_some.ensures.value in
     let all : c.self.inside.row.len ≡ length old = sym c.deref_mut-else-is_some.ensures.len ∙ ap length c.deref_mut-else-is_some.ensures.value in
@@ -126,7 +126,7 @@ invariant_of-self-else-is_some c =
     let less = taken_out _ _ (c.remove-cell.ensures.succeeds 0 c.place_of-place.ensures.within) c.remove-cell.ensures.len in
     let r = c.added-root.ensures es i.blanks h i.sorted (omega (arith, i.within, room, all)) (omega (arith, i.within, room, all)) missing (omega (arith, less, i.room)) in
     let more : length r.its ≡ length es + 1 = put-length x es r.its i.sorted r.are ∙ ap (λ (y : Option Entry). cond (is_some y) (length es) (length es + 1)) missing in
-    subst (λ (xs : List Node). IsIndex xs c.added-root.result.0 c.added-root.result.1 (deque_len c.remove-cell.new.self) (deque_capacity c.remove-cell.new.self)) (sym row)
+    subst (λ (xs : List IndexNode). IsIndex xs c.added-root.result.0 c.added-root.result.1 (deque_len c.remove-cell.new.self) (deque_capacity c.remove-cell.new.self)) (sym row)
     record {
       entries = r.its;
       blanks = r.left;
@@ -144,14 +144,14 @@ returns-else-is_some-clause-entries c =
     let o = find key_cmp x.key (pairs_of i.entries) in
     let sides : List Part = Tree c.self.inside.spare i.blanks ∷ [] in
     let all_of : vec_len c.self.inside.row ≡ length c.self.inside.row.items = sym c.deref.ensures.len ∙ ap length c.deref.ensures.value in
-    let found : c.find.result ≡ o = c.find.ensures i.entries sides (subst (λ (row : List Node). Holds row (Tree c.self.inside.root i.entries ∷ sides)) (sym c.deref.ensures.value) i.holds) i.sorted (omega (arith, i.within, c.len-room.ensures, all_of)) in
+    let found : c.find.result ≡ o = c.find.ensures i.entries sides (subst (λ (row : List IndexNode). Holds row (Tree c.self.inside.root i.entries ∷ sides)) (sym c.deref.ensures.value) i.holds) i.sorted (omega (arith, i.within, c.len-room.ensures, all_of)) in
     let missing : o ≡ None = absent o (ap is_some (sym found) ∙ sym c.is_some.ensures ∙ c.if-is_some.false) in
     let es = i.entries in
     let free = c.self.inside.free.items in
     let old = c.self.inside.row.items in
     let new = c.added-root.new.row in
     let parts : List Part = Tree c.self.inside.spare i.blanks ∷ [] in
-    let h = subst (λ (row : List Node). Holds row (Tree c.self.inside.root es ∷ parts)) (sym c.deref_mut-else-is_some.ensures.value) i.holds in
+    let h = subst (λ (row : List IndexNode). Holds row (Tree c.self.inside.root es ∷ parts)) (sym c.deref_mut-else-is_some.ensures.value) i.holds in
     let room = c.len-room.ensures in
     let long : length new ≡ length old = c.added-root.auto.row ∙ ap length c.deref_mut-else-is_some.ensures.value in
     let all : c.self.inside.row.len ≡ length old = sym c.deref_mut-else-is_some.ensures.len ∙ ap length c.deref_mut-else-is_some.ensures.value in
@@ -159,7 +159,7 @@ returns-else-is_some-clause-entries c =
     let less = taken_out _ _ (c.remove-cell.ensures.succeeds 0 c.place_of-place.ensures.within) c.remove-cell.ensures.len in
     let r = c.added-root.ensures es i.blanks h i.sorted (omega (arith, i.within, room, all)) (omega (arith, i.within, room, all)) missing (omega (arith, less, i.room)) in
     let more : length r.its ≡ length es + 1 = put-length x es r.its i.sorted r.are ∙ ap (λ (y : Option Entry). cond (is_some y) (length es) (length es + 1)) missing in
-    ap (λ (xs : List Node). made (entries_below (length xs) xs c.added-root.result.0)) row
+    ap (λ (xs : List IndexNode). made (entries_below (length xs) xs c.added-root.result.0)) row
     ∙ made-below new c.added-root.result.0 r.its (Tree c.added-root.result.1 r.left ∷ []) r.holds (omega (arith, more, r.count, long, i.within))
     ∙ made-put x es r.its i.sorted r.are ∙ ap (λ (xs : List Entry). maps.insert (made xs) x.key x) (sym (shows _ _ _ _ _ i)) ∙ ap (λ (s : Indexed). maps.insert s.entries x.key x) c.self.view_is
 
@@ -170,7 +170,7 @@ returns-else-is_some-clause-free c =
     let o = find key_cmp x.key (pairs_of i.entries) in
     let sides : List Part = Tree c.self.inside.spare i.blanks ∷ [] in
     let all_of : vec_len c.self.inside.row ≡ length c.self.inside.row.items = sym c.deref.ensures.len ∙ ap length c.deref.ensures.value in
-    let found : c.find.result ≡ o = c.find.ensures i.entries sides (subst (λ (row : List Node). Holds row (Tree c.self.inside.root i.entries ∷ sides)) (sym c.deref.ensures.value) i.holds) i.sorted (omega (arith, i.within, c.len-room.ensures, all_of)) in
+    let found : c.find.result ≡ o = c.find.ensures i.entries sides (subst (λ (row : List IndexNode). Holds row (Tree c.self.inside.root i.entries ∷ sides)) (sym c.deref.ensures.value) i.holds) i.sorted (omega (arith, i.within, c.len-room.ensures, all_of)) in
     let missing : o ≡ None = absent o (ap is_some (sym found) ∙ sym c.is_some.ensures ∙ c.if-is_some.false) in
     let free = c.self.inside.free.items in
     let items = taken_out _ _ (c.remove-cell.ensures.succeeds 0 c.place_of-place.ensures.within) c.remove-cell.ensures.items in

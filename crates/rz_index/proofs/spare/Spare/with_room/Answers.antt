@@ -1,6 +1,6 @@
 use Rattle.std.proofs.Common.{◌≡◌, ◌+◌, List, ◌∷◌, [], ◌++◌, length, sym, ap, subst, ◌∙◌, arith}
 use Rattle.std.proofs.lemmas.List.{length_push}
-use Rattle.rz_index.specs.declared.nodes.Node.{Node}
+use Rattle.rz_index.specs.declared.nodes.IndexNode.{IndexNode}
 use Rattle.rz_index.specs.Standing.{Tree, Holds}
 use Rattle.rz_index.proofs.Standing.{pushed}
 use Rattle.rz_index.proofs.spare.Spare.with_room.Goals as goal
@@ -16,7 +16,7 @@ loop-link-preserved c =
       node.packed ∷ i.0,
       omega (arith, i.1),
       omega (arith, more, long, i.2),
-      subst (λ (xs : List Node). Holds xs (Tree (c.loop-link.link + 1) (node.packed ∷ i.0) ∷ [])) (sym items)
+      subst (λ (xs : List IndexNode). Holds xs (Tree (c.loop-link.link + 1) (node.packed ∷ i.0) ∷ [])) (sym items)
           (pushed row c.loop-link.link i.0 node i.2 c.node-in-loop-link.ensures.left c.node-in-loop-link.ensures.right i.3),
     )
 

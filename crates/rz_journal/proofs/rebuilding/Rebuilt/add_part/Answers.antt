@@ -1,6 +1,6 @@
 -- The part is added where it may follow.
 use Rattle.std.proofs.Common.{rules, ◌≡◌, false, true, sym, subst}
-use Rattle.rz_journal_text.specs.declared.entry.Entry.TheVariants as entry
+use Rattle.rz_journal_text.specs.declared.entry.JournalEntry.TheVariants as entry
 use Rattle.rz_journal.specs.declared.rebuilding.ReopenProgress.{ReopenProgress}
 use Rattle.rz_journal.specs.Opening.{TellsPart, IsAdded}
 use Rattle.rz_journal.proofs.Openings.{may_add, part_stops, part_added}
