@@ -1,9 +1,8 @@
 -- Lists over the positions of a layout, and over blocks.
-use Rattle.std.proofs.Common.{◌≡◌, ℕ, zero, suc, ◌+◌, ◌/◌, ◌<◌, ◌≤◌, refl, sym, ap, ◌∙◌, subst, arith, List, [], ◌∷◌, ◌++◌, map, length, get_or, take, drop, inl, inr, add-one, Result, Ok, Err}
+use Rattle.std.proofs.Common.{◌≡◌, ℕ, zero, suc, ◌+◌, ◌/◌, ◌<◌, refl, sym, ap, ◌∙◌, subst, arith, List, [], ◌∷◌, ◌++◌, map, length, get_or, take, drop, Result, Ok, Err}
 use Rattle.std.specs.Prelude.{slice_range, slice_index_or, All, IfOk, MatchResult}
 use Rattle.std.specs.List.{AllZip}
 use Rattle.std.proofs.Math.Seq.{take-append_seam}
-use Rattle.std.proofs.lemmas.Bool.{cases_lt}
 use Rattle.std.proofs.lemmas.List.Elements.{All-append}
 use Rattle.std.specs.List.{range_with_len}
 use Rattle.std.proofs.lemmas.List.{ext_get_or, get_or-map}
@@ -30,17 +29,6 @@ parts-of_block y bins g same =
 -- what a vector holds after its elements were lent and came back as xs
 pub taken_back : (xs ys : List ℕ) (n : ℕ) → length xs ≡ n → take n (xs ++ drop (length xs) ys) ≡ xs
 taken_back xs ys n e = ap (λ m. take m (xs ++ drop (length xs) ys)) (sym e) ∙ take-append_seam xs (drop (length xs) ys)
-
-start-more : (y : Layout) (j : ℕ) → start_of y (j + 1) ≡ start_of y j + bins_at_of y j
-start-more y j = rw (add-one j) refl
-
--- the bins at a position end before those at the later ones begin
-pub starts-rise : (y : Layout) (i j : ℕ) → i < j → start_of y i + bins_at_of y i ≤ start_of y j
-starts-rise y i zero h = absurd (omega arith)
-starts-rise y i (suc j) h = elim (cases_lt i j) as (λ _. start_of y i + bins_at_of y i ≤ start_of y (suc j)) [
-  | inl before ↦ (let r = starts-rise y i j before in omega (arith, r))
-  | inr from ↦ (let e : i ≡ j = omega arith in let f = ap (λ i. start_of y i + bins_at_of y i) e in omega (arith, f))
-]
 
 -- one more block
 pub push_more : {T X : Type 0} (f : T → X) (g : ℕ → X) (vs : List T) (v : T) (new : List T) (i : ℕ) → new ≡ vs ++ v ∷ [] → map f vs ≡ map g (range_with_len 0 i) → f v ≡ g i →

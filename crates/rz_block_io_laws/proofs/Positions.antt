@@ -8,7 +8,7 @@ use Rattle.std.proofs.lemmas.Nat.{and_le_l}
 use Rattle.std.proofs.Math.Pow.{pow_mono}
 use Rattle.std.proofs.lemmas.Bool.{cases_lt}
 use Rattle.std.proofs.lemmas.Bool.Decides.{nat_tests}
-use Rattle.std.proofs.lemmas.Nat.Bits.{bit_at-trailing_zeros, bit_at_and, bit_at_above, bit_at_xor, bit_at-pow_other, bit_at-pow_same, bit_at-lt, bit_at-zero, bit_at_ones}
+use Rattle.std.proofs.lemmas.Nat.Bits.{bit_at-trailing_zeros, bit_at_and, bit_at_xor, bit_at-pow_other, bit_at-pow_same, bit_at-lt, bit_at-zero, bit_at_ones}
 use Rattle.std.proofs.lemmas.List.{drop_more, drop_all}
 use Rattle.std.proofs.lemmas.List.Filters.{length-filter_both}
 use Rattle.std.proofs.lemmas.List.FromFn.{length-range_with_len}
@@ -17,6 +17,7 @@ use Rattle.mj_angles.specs.declared.layout.Layout.{Layout}
 use Rattle.mj_angles.specs.Layout.{safe_of}
 use Rattle.rz_block_io_laws.specs.Reads.{order}
 use Rattle.rz_events.specs.Masks.{has_bit}
+use Rattle.rz_client_model.proofs.Masks.{in-below}
 
 -- Filters of a range.
 
@@ -118,12 +119,6 @@ length-order layout mask =
     length-append (filter (has_bit mask) xs) (filter (λ q. not (has_bit mask q)) xs)
     ∙ length-filter_both (has_bit mask) (λ q. not (has_bit mask q)) (λ q. refl) xs
     ∙ length-range_with_len 0 (safe_of layout)
-
-pub safe-most : (layout : Layout) → safe_of layout ≤ 16
-safe-most layout = grind arith
-
-pub in-below : (a n p : ℕ) → a < 2 ^ n → bit_at a p ≡ 1 → p < n
-in-below a n p few h = elim (cases_lt p n) [ inl below ↦ below | inr above ↦ absurd (omega (arith, bit_at_above a n p few above, h)) ]
 
 both-not : (x y : ℕ) → min x y ≡ 0 → (eqb x 1 && eqb y 1) ≡ false
 both-not zero y h = refl

@@ -25,7 +25,8 @@ use Rattle.rz_client_model.specs.declared.reading.Fetches.{Fetches}
 use Rattle.rz_client_model.specs.Read.{reader_start, reader_ask, reader_told, reader_end, ask_at, end_at, none_fetched, next_position, with_seen, with_record, unless_enough, after_answer, IsReaderAnswer, IsLookAnswer, IsFetchAnswer}
 use Rattle.rz_events.specs.Masks.{stamp_told}
 use Rattle.rz_block_io_laws.specs.Reads.{after, AreAnswers, looked, mask_of, stamp_in, asked_in, lengths, given_in, length_in, order, next_in, table, end_of_fetches, end_of_recheck, end_after, unless_ended, next_ask, ask_after, AsksInOrder, EndsExactly}
-use Rattle.rz_block_io_laws.proofs.Positions.{pending, pending-all, pending-none, pending-next, length-order, safe-most, in-below, left-some, left-first}
+use Rattle.rz_client_model.proofs.Masks.{in-below, safe-few}
+use Rattle.rz_block_io_laws.proofs.Positions.{pending, pending-all, pending-none, pending-next, length-order, left-some, left-first}
 
 -- the stage after these answers
 abbrev pub stage_after : Layout → (List ReaderAnswer → Bool) → List ReaderAnswer → ReadStage
@@ -73,7 +74,7 @@ goes-on layout fit given n e is fewer =
 
 first-left : (layout : Layout) (fits : List ReaderAnswer → Bool) (answers : List ReaderAnswer) (t : Fetches) → IsFetching layout fits answers t → 0 < t.left →
     drop (asked_in answers) (order layout t.mask) ≡ next_position t ∷ pending (bit_xor t.left (2 ^ next_position t)) t.mask (safe_of layout)
-first-left layout fits answers t h some = sym h.left_is ∙ (pending-next t.left t.mask (safe_of layout) some h.few (safe-most layout)).1
+first-left layout fits answers t h some = sym h.left_is ∙ (pending-next t.left t.mask (safe_of layout) some h.few (safe-few layout)).1
 
 next-is : (layout : Layout) (fits : List ReaderAnswer → Bool) (answers : List ReaderAnswer) (t : Fetches) → IsFetching layout fits answers t → 0 < t.left →
     next_position t ≡ next_in layout answers
@@ -101,7 +102,7 @@ module _ (layout : Layout) (fits : List ReaderAnswer → Bool) (answers new : Li
         length = size;
       })
   asked-more given size given_is length_is fewer =
-      let one = (pending-next t.left t.mask (safe_of layout) some h.few (safe-most layout)).0 in
+      let one = (pending-next t.left t.mask (safe_of layout) some h.few (safe-few layout)).0 in
       let p = next_position t in
       let place : p < safe_of layout = in-below t.left (safe_of layout) p h.few one in
       let within : asked_in answers < safe_of layout = not-all layout fits answers t h some in

@@ -45,7 +45,7 @@ fn formatted<D: Disk>(rt: &(impl Abort + AllocGlobal), disk: D) -> Cells<D>
 }
 
 /// Cells with the record in the first one of an empty pair, on a disk that is made anew.
-#[tactic(auto, using(crate::proofs::Alone::goes_alone), unfolding(rz_record::specs::Record::bins_of))]
+#[tactic(auto, using(rz_cells_slots::proofs::Made::goes_alone), unfolding(rz_record::specs::Record::bins_of))]
 fn with_record<D: Disk>(rt: &(impl Abort + AllocGlobal), disk: D) -> Cells<D>
     ensures open { AreOpen result }
     ensures geometry { result.geometry ≡ ONE }
@@ -59,7 +59,7 @@ fn with_record<D: Disk>(rt: &(impl Abort + AllocGlobal), disk: D) -> Cells<D>
 }
 
 /// The disk of a put into the first cell of an empty pair, which stops.
-#[tactic(auto, using(crate::proofs::Alone::goes_alone), unfolding(rz_record::specs::Record::bins_of))]
+#[tactic(auto, using(rz_cells_slots::proofs::Made::goes_alone), unfolding(rz_record::specs::Record::bins_of))]
 fn stopped_put<D: Disk>(rt: &(impl Abort + AllocGlobal), disk: D, passes: u64) -> D {
     let bins = words(rt.alloc()).expect(rt, "memory");
     let mut cells = formatted(rt, disk);

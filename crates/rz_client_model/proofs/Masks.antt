@@ -1,10 +1,11 @@
 -- The mask of a table of outcomes: which positions it names, and how many.
-use Rattle.std.proofs.Common.{◌≡◌, ℕ, suc, zero, ◌+◌, ◌*◌, ◌/◌, ◌%◌, ◌^◌, ◌<◌, ◌≤◌, Bool, true, false, cond, List, [], ◌∷◌, ◌++◌, length, get_or, replicate, arith, ap, ◌∙◌, refl}
+use Rattle.std.proofs.Common.{◌≡◌, ℕ, suc, zero, ◌+◌, ◌*◌, ◌/◌, ◌%◌, ◌^◌, ◌<◌, ◌≤◌, Bool, true, false, cond, List, [], ◌∷◌, ◌++◌, length, get_or, replicate, arith, ap, ◌∙◌, refl, inl, inr}
 use Rattle.std.specs.Prelude.{count_by}
 use Rattle.std.specs.Int.{bit_at}
 use Rattle.std.specs.Int.Count.{ones, ones_step}
 use Rattle.std.proofs.lemmas.List.Sums.{sum_by-cons}
-use Rattle.std.proofs.lemmas.Nat.Bits.{bit_at-zero, bit_at_lowest, bit_at-suc}
+use Rattle.std.proofs.lemmas.Bool.{cases_lt}
+use Rattle.std.proofs.lemmas.Nat.Bits.{bit_at-zero, bit_at_above, bit_at_lowest, bit_at-suc}
 use Rattle.std.proofs.Math.Nat.{pow-suc}
 use Rattle.mj_angles.specs.declared.layout.Layout.{Layout}
 use Rattle.mj_angles.specs.Layout.{forward_of, safe_of}
@@ -21,6 +22,10 @@ pub forward-less : (layout : Layout) → forward_of layout ≤ safe_of layout
 forward-less layout = grind arith
 
 -- Single bits.
+
+-- a position in a set of positions below n is below n
+pub in-below : (a n p : ℕ) → a < 2 ^ n → bit_at a p ≡ 1 → p < n
+in-below a n p few h = elim (cases_lt p n) [ inl below ↦ below | inr above ↦ absurd (omega (arith, bit_at_above a n p few above, h)) ]
 
 pub bit-le : (b : Bool) → cond b 1 0 ≤ 1
 bit-le true = omega arith

@@ -3,8 +3,8 @@
 //!
 //! Definitions alone stand here, over plain data. `Write` has the write: the outcome of each position,
 //! the mask of those that have its record, and when too many have failed. `Read` has the read: in which
-//! order the positions are asked, and when the records are enough. The machines implement them. Nothing
-//! is said here of bins, nor of which answer a node or the export gives.
+//! order the positions are asked, and when the records are enough. `Blocks` has the block of a text. The
+//! machines implement them. Nothing is said here of bins, nor of which answer a node or the export gives.
 #![tactic(auto)]
 
 mod reading;

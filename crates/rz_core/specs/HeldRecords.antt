@@ -1,21 +1,18 @@
 -- The records that a node holds by the log: heads with their bins, by the block and the stamp.
 use Rattle.std.specs.Prelude.{ℕ, List, length, Option, Some, None, cond}
 use Rattle.mj_angles.specs.declared.layout.Layout.{Layout}
-use Rattle.mj_angles.specs.Layout.{bsize_of, inverse_of, cols_of, angle_of}
+use Rattle.mj_angles.specs.Layout.{bsize_of, angle_of}
 use Rattle.mj_angles.specs.Projection.{projection}
-use Rattle.rz_words.specs.Grid.{Grid, word, grid_from_bytes}
+use Rattle.rz_words.specs.Grid.{Grid, word}
 use Rattle.rz_events.specs.Volume.{Volume}
 use Rattle.rz_events.specs.declared.keys.Key.{Key}
 use Rattle.rz_events.specs.declared.records.Head.{Head}
 use Rattle.rz_events.specs.declared.events.Event.{Event}
 use Rattle.rz_node_model.specs.Versions.{has_stamp}
+pub use Rattle.rz_client_model.specs.Blocks.{block_of}
 use Rattle.rz_operation_model.specs.Rebuild.{position_in}
 use Rattle.rz_core.specs.History.{Facts, Begun}
 use Rattle.rz_core.specs.NodeWord.{held, undecided, settled, itself}
-
--- the block with this text, which is followed by zeros
-abbrev pub block_of : Layout → List ℕ → Grid
-block_of layout text = grid_from_bytes (inverse_of layout) (cols_of layout) text
 
 -- the projection of a block at a position
 abbrev pub bins_at : Layout → Grid → ℕ → List ℕ

@@ -1,5 +1,5 @@
 pub mod Images
 pub mod Passes
-mod FileCalls
+pub mod FileCalls
 mod Marks
 mod Patches

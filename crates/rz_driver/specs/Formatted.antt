@@ -9,7 +9,7 @@ use Rattle.rz_nodes.specs.Formatted.{AreBack}
 use Rattle.rz_nodes.specs.declared.fault.DriverFault.{DriverFault}
 use Rattle.rz_nodes.specs.declared.fault.DriverFault.TheVariants as driver
 use Rattle.rz_journal.specs.JournalText.{IsTextOf}
-use Rattle.rz_journal.specs.Stands.{IsShut}
+use Rattle.rz_cells_slots.specs.Stands.{IsShut}
 use Rattle.rz_driver.specs.declared.driver.Driver.{Driver}
 
 -- A disk comes back that was to be formatted for a journal: its count of faults did not fall, and each image is one from before, or

@@ -34,10 +34,10 @@ use Rattle.rz_core.specs.History.{of_word}
 use Rattle.rz_node.specs.View.{NodeView}
 use Rattle.rz_node.specs.Opens.{Opens, IfStarted, UnlessStarted}
 use Rattle.rz_node.specs.Calls as calls
-use Rattle.rz_node.specs.Calls.{Counts}
+use Rattle.rz_node.specs.Calls.{Counts, IsNoStart}
 use Rattle.rz_play.specs.Faults.{unplanned}
 use Rattle.rz_play.specs.Lines.{noted}
-use Rattle.rz_node_laws.specs.Metered.{IsMetered, IsNoStart, IsFaultLaw, IsArmLaw, IsStartLaw, IsOpening}
+use Rattle.rz_node_laws.specs.Metered.{IsMetered, IsFaultLaw, IsArmLaw, IsStartLaw, IsOpening}
 use Rattle.rz_disk.specs.UnderFuse.{UnderFuse, fused_meter}
 use Rattle.rz_nodes.specs.declared.formatting.Server.{Server}
 use Rattle.rz_driver_asks.specs.Parts.{IsNoted}

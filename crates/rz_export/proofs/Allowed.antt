@@ -1,5 +1,5 @@
 -- The tests of the next part are its rules.
-use Rattle.std.proofs.Common.{◌≡◌, ℕ, suc, ◌+◌, ◌*◌, ◌<◌, ◌≤◌, Bool, true, false, not, cond, ◌&&◌, ◌||◌, ◌↔◌, List, [], ◌∷◌, length, Option, Some, None, is_some, is_none, Ordering, sym, ap, ◌∙◌, subst, refl, arith, eqb-true, eq-eqb, nat_lt}
+use Rattle.std.proofs.Common.{◌≡◌, ℕ, suc, ◌+◌, ◌*◌, ◌≤◌, Bool, true, false, not, cond, ◌&&◌, ◌||◌, ◌↔◌, List, [], ◌∷◌, length, Option, Some, None, is_some, is_none, Ordering, sym, ap, ◌∙◌, subst, refl, arith, eqb-true, eq-eqb, nat_lt}
 use Rattle.std.specs.Prelude.{◌==◌, nat_le, nat_eq, IfSome}
 use Rattle.std.proofs.lemmas.Bool.{leb-true}
 use Rattle.std.proofs.lemmas.Bool.Decides.{nat_tests}
@@ -23,7 +23,7 @@ use Rattle.rz_export_model.specs.Export.{Export, Block, Blocks, Enrolled, file_b
 use Rattle.rz_blocks.specs.Shown.{entry_above}
 use Rattle.rz_tree.specs.Added.{is_behind, IsNextObject}
 use Rattle.rz_export.specs.declared.nodes.Enrolment.{Enrolment}
-use Rattle.rz_tree.proofs.Walks.{lt-same}
+use Rattle.rz_tree.proofs.Walks.{le-test, lt-same, lt-test, test-lt}
 use Rattle.rz_export.specs.Parts.{enrolled_pair, is_past}
 use Rattle.rz_export.specs.Building.{is_home, LiesIn, IsBlockless, MayBeObject, MayBePublished, MayBeBlock, MayBeEnrolled}
 use Rattle.rz_export.specs.Allowed.{are_distinct, lies_in, may_lie, is_blockless, may_be_published, is_next_block, is_next_enrolment}
@@ -46,15 +46,6 @@ and-both false b h k = absurd (no h)
 and-no : (a : Bool) → (a && false) ≡ false
 and-no true = refl
 and-no false = refl
-
-le-test : (a b : ℕ) → a ≤ b → nat_le a b ≡ true
-le-test a b h = grind (arith, nat_tests)
-
-lt-test : (a b : ℕ) → a < b → nat_lt a b ≡ true
-lt-test a b h = grind (arith, nat_tests)
-
-test-lt : (a b : ℕ) → nat_lt a b ≡ true → a < b
-test-lt a b h = grind (arith, nat_tests)
 
 -- what is never allowed
 pub never : (false ≡ true) ↔ ⊥

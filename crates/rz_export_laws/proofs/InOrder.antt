@@ -58,7 +58,7 @@ module _ {K X : Type 0} {R : K → K → Ordering} (o : IsTotalOrder R) where
   after [] e ys h = left _ _ h
   after (x ∷ xs) e ys h = after xs e ys (right _ _ h)
 
-  find-mid : (xs : List (K × X)) (e : K × X) (ys : List (K × X)) → T (is_sorted R (xs ++ e ∷ ys)) → find R e.0 (xs ++ e ∷ ys) ≡ Some e.1
+  pub find-mid : (xs : List (K × X)) (e : K × X) (ys : List (K × X)) → T (is_sorted R (xs ++ e ∷ ys)) → find R e.0 (xs ++ e ∷ ys) ≡ Some e.1
   find-mid [] e ys h = ap (λ r. cond (is_eq r) (Some e.1) (find R e.0 ys)) (tied_itself o e.0)
   find-mid (x ∷ xs) e ys h =
       ap (λ r. cond (is_eq r) (Some x.1) (find R e.0 (xs ++ e ∷ ys))) (o.antisymm e.0 x.0 ∙ ap ordering_reverse (is_less _ (below-mid x.0 xs e ys (left _ _ h))))

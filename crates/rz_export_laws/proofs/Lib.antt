@@ -10,7 +10,7 @@ mod TreeCalls
 mod TreeKept
 mod Depth
 mod Written
-mod InOrder
+pub mod InOrder
 mod Placing
 mod Carrying
 mod Calls

@@ -4,7 +4,8 @@ use Rattle.std.proofs.lemmas.Bool.{cases_lt}
 use Rattle.std.proofs.lemmas.List.{get_or-replicate, get_or_past, length-replicate}
 use Rattle.rz_disk.specs.Images.{window, Torn, Written}
 use Rattle.rz_disk.proofs.Images.{apart, window-byte}
-use Rattle.rz_journal.specs.Stands.{disk_bytes, header_bytes, HalfHolds, StandsFor, IsShut}
+use Rattle.rz_journal.specs.Stands.{disk_bytes, header_bytes, HalfHolds, StandsFor}
+use Rattle.rz_cells_slots.specs.Stands.{IsShut}
 use Rattle.rz_journal.proofs.Changes.{size_is}
 
 abbrev blank : ℕ → List ℕ

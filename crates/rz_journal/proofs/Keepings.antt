@@ -11,7 +11,8 @@ use Rattle.rz_export_laws.specs.Whole.{IsWhole}
 use Rattle.rz_journal_text.specs.declared.entry.JournalEntry.{JournalEntry}
 use Rattle.rz_journal_text.specs.Spelling.{entry_bytes}
 use Rattle.rz_journal.specs.Row.{taken}
-use Rattle.rz_journal.specs.Stands.{StandsFor, IsJournal, IsSameHalf, IsShut, IsHalfOpen, Either, Becomes, with_last, instead}
+use Rattle.rz_journal.specs.Stands.{StandsFor, IsJournal, IsSameHalf, IsHalfOpen, Either, Becomes, with_last, instead}
+use Rattle.rz_cells_slots.specs.Stands.{IsShut}
 use Rattle.rz_journal.proofs.FramedRows.{length-row_bytes}
 use Rattle.rz_journal.specs.Said.{entry_of, accepts, used_after}
 use Rattle.rz_journal.specs.JournalText.{IsAccepted, AreAccepted, after_all, Makes, Keeps, IsTextOf}

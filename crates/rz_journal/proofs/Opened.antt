@@ -3,7 +3,8 @@ use Rattle.std.proofs.Common.{◌≡◌, ◌≢◌, ℕ, ◌+◌, ◌%◌, ◌<�
 use Rattle.rz_disk.specs.Images.{window}
 use Rattle.rz_disk.proofs.Images.{window-byte}
 use Rattle.rz_journal.specs.Row.{taken}
-use Rattle.rz_journal.specs.Stands.{disk_bytes, half_bytes, half_at, header_bytes, IsJournal, IsShut, IsHalfOpen}
+use Rattle.rz_journal.specs.Stands.{disk_bytes, half_bytes, half_at, header_bytes, IsJournal, IsHalfOpen}
+use Rattle.rz_cells_slots.specs.Stands.{IsShut}
 use Rattle.rz_journal.specs.HalfOpening.{IsHalf, HoldsSoFar}
 use Rattle.rz_journal.proofs.Changes.{size_is}
 use Rattle.rz_journal.proofs.Halves.{ends_moved}

@@ -1,14 +1,12 @@
 -- The parts of a whole export may stand in entries, and make it again.
-use Rattle.std.proofs.Common.{◌≡◌, ℕ, zero, suc, cond, T, List, [], ◌∷◌, ◌++◌, length, drop, map, Some, Ordering, refl, sym, ap, ◌∙◌, subst, arith, append_assoc}
-use Rattle.std.specs.Ordering.{is_eq, is_lt, ordering_reverse}
-use Rattle.std.specs.Cmp.{IsTotalOrder, nat_cmp_total, tied_itself}
+use Rattle.std.proofs.Common.{◌≡◌, ℕ, zero, suc, T, List, [], ◌∷◌, ◌++◌, length, drop, map, Some, Ordering, refl, sym, ap, ◌∙◌, subst, arith, append_assoc}
+use Rattle.std.specs.Cmp.{IsTotalOrder, nat_cmp_total}
 use Rattle.std.specs.List.{slice_get, AllByRecursion}
 use Rattle.std.specs.FinMap as maps
 use Rattle.std.specs.FinMap.{FinMap, get-entries, entries_sorted}
-use Rattle.std.specs.FinMap.Entries.{find, is_sorted, below_all}
+use Rattle.std.specs.FinMap.Entries.{find, is_sorted}
 use Rattle.rz_events.specs.declared.files.Kind.{Kind}
 use Rattle.rz_events.specs.declared.files.Kind.TheVariants.{File, Dir, Link}
-use Rattle.rz_export_model.proofs.Tests.{left, right, is_less}
 use Rattle.rz_export_model.specs.Paths.{Path, paths_total}
 use Rattle.rz_export_model.specs.Tree.{Tree, Object}
 use Rattle.rz_export_model.specs.Export.{Export}
@@ -18,25 +16,16 @@ use Rattle.rz_tree.specs.Parts.{object_part, name_part, tree_parts}
 use Rattle.rz_export.specs.Parts.{block_part, enrolled_part, flat_parts, export_parts}
 use Rattle.rz_export_laws.specs.WholeTree.{IsWholeTree, ArePathsWritten}
 use Rattle.rz_export_laws.specs.Whole.{IsWhole}
+use Rattle.rz_export_laws.proofs.InOrder.{find-mid}
 use Rattle.rz_journal_text.specs.Spelling.{IsShort, PartMayStand}
 
 -- ---- an entry of a map is found in it
 
 module _ {K X : Type 0} {R : K → K → Ordering} (o : IsTotalOrder R) where
-  below-mid : (k : K) (xs : List (K × X)) (e : K × X) (ys : List (K × X)) → T (below_all R k (xs ++ e ∷ ys)) → T (is_lt (R k e.0))
-  below-mid k [] e ys h = left _ _ h
-  below-mid k (x ∷ xs) e ys h = below-mid k xs e ys (right _ _ h)
-
-  find-mid : (xs : List (K × X)) (e : K × X) (ys : List (K × X)) → T (is_sorted R (xs ++ e ∷ ys)) → find R e.0 (xs ++ e ∷ ys) ≡ Some e.1
-  find-mid [] e ys h = ap (λ r. cond (is_eq r) (Some e.1) (find R e.0 ys)) (tied_itself o e.0)
-  find-mid (x ∷ xs) e ys h =
-      ap (λ r. cond (is_eq r) (Some x.1) (find R e.0 (xs ++ e ∷ ys))) (o.antisymm e.0 x.0 ∙ ap ordering_reverse (is_less _ (below-mid x.0 xs e ys (left _ _ h))))
-      ∙ find-mid xs e ys (right _ _ h)
-
   each_from : (m : FinMap R X) (xs es : List (K × X)) → xs ++ es ≡ maps.entries m → AllByRecursion (λ e. maps.get m e.0 ≡ Some e.1) es
   each_from m xs [] is = tt
   each_from m xs (e ∷ es) is = (
-    get-entries m e.0 ∙ ap (find R e.0) (sym is) ∙ find-mid xs e es (subst (λ (l : List (K × X)). T (is_sorted R l)) (sym is) (entries_sorted m)),
+    get-entries m e.0 ∙ ap (find R e.0) (sym is) ∙ find-mid o xs e es (subst (λ (l : List (K × X)). T (is_sorted R l)) (sym is) (entries_sorted m)),
     each_from m (xs ++ e ∷ []) es (append_assoc xs (e ∷ []) es ∙ is),
   )
 

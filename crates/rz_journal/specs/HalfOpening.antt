@@ -4,7 +4,8 @@ use Rattle.rz_disk.specs.Images.{window, Only}
 use Rattle.rz_journal.specs.declared.half_opening.HalfFault.{HalfFault}
 use Rattle.rz_journal.specs.declared.half_opening.HalfFault.TheVariants.{NoMemory, WrongSize, DiskFault, Unformatted, BadHeader}
 use Rattle.rz_journal.specs.Row.{Entries, taken, EndsAt}
-use Rattle.rz_journal.specs.Stands.{disk_bytes, half_at, half_bytes, header_bytes, IsJournal, IsShut}
+use Rattle.rz_journal.specs.Stands.{disk_bytes, half_at, half_bytes, header_bytes, IsJournal}
+use Rattle.rz_cells_slots.specs.Stands.{IsShut}
 
 -- the header of a text picks this half
 abbrev pub IsPicked : Bool → List ℕ → ℕ → Type 0

@@ -40,10 +40,6 @@ IsSameHalf old new = (half : ℕ) → IsJournal half old → IsJournal half new
 abbrev pub StandsFor : List ℕ → Entries → Type 0
 StandsFor text entries = (half : ℕ) × HalfHolds half entries text
 
--- the header's gate is shut
-abbrev pub IsShut : List ℕ → Type 0
-IsShut text = slice_index text 32 % 2 ≡ 0
-
 -- What the disk reads is all on it, and it holds entries of so many bytes in this half.
 pub record IsHalfOpen (tells : Bool) (text : List ℕ) (image : List ℕ → Type 0) (half used : ℕ) : Type 0 where
   pub size : length text ≡ disk_bytes

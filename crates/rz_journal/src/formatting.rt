@@ -3,7 +3,8 @@
 ghost use Rattle.std.specs.Prelude.{◌≡◌, ◌⊎◌, ℕ, List, [], length, replicate, IsTrue, IsErr, IsErrOf, OnOk, OnErr, IfOk, IfErr, MatchResult};
 ghost use Rattle.rz_disk.specs.Images.{Only};
 ghost use Rattle.rz_disk.specs.Meter.{Took, Lasts, Rises, faults};
-ghost use Rattle.rz_journal.specs.Stands.{disk_bytes, HalfHolds, StandsFor, IsHalfOpen, IsShut};
+ghost use Rattle.rz_journal.specs.Stands.{disk_bytes, HalfHolds, StandsFor, IsHalfOpen};
+ghost use Rattle.rz_cells_slots.specs.Stands.{IsShut};
 
 use crate::Entries;
 use crate::shape::{disk_bytes, header};

@@ -8,7 +8,7 @@ ghost use Rattle.rz_journal.specs.JournalText.{IsTextOf};
 ghost use Rattle.rz_journal.specs.Kept.{IsExportAfter};
 ghost use Rattle.rz_journal.specs.Opening.{IsJournalRefused};
 ghost use Rattle.rz_journal.specs.Seen.{calls_after};
-ghost use Rattle.rz_journal.specs.Stands.{IsShut};
+ghost use Rattle.rz_cells_slots.specs.Stands.{IsShut};
 ghost use Rattle.rz_events.specs.Borrowed.{call_of};
 ghost use Rattle.rz_metadata.specs.Enrolled.{loss_of};
 ghost use Rattle.rz_metadata.specs.Reopened.{AllTextsOf, IsAsItCame, MakesExport};

@@ -1,15 +1,10 @@
--- What is held of each key after a change of one key, and its stamps.
-use Rattle.std.proofs.Common.{ℕ, Bool, true, false, ◌≡◌, ◌==◌, ◌&&◌, ◌||◌, nat_lt, List, [], ◌∷◌, map, Option, Some, None, cond, refl, sym, ap, ◌∙◌, eq-eqb}
+-- Keys that are the same, and the stamps of what is held of a key.
+use Rattle.std.proofs.Common.{ℕ, Bool, true, false, ◌≡◌, ◌==◌, ◌&&◌, ◌||◌, nat_lt, List, [], ◌∷◌, map, cond, refl, sym, ap, ◌∙◌, eq-eqb}
 use Rattle.std.proofs.lemmas.Bool.{and_parts, eqb-true}
-use Rattle.std.specs.FinMap as maps
-use Rattle.std.specs.FinMap.{get-insert, get-remove}
-use Rattle.std.specs.Ordering.{eq_by_cmp, nat_cmp, is_eq}
-use Rattle.std.specs.Cmp.{tied_then, unsigned_tied}
-use Rattle.rz_events.specs.Keys.{key_cmp, keys_total}
 use Rattle.rz_events.specs.Events.{same_key}
 use Rattle.rz_events.specs.declared.keys.Key.{Key}
 use Rattle.rz_events.specs.declared.records.Held.{Held}
-use Rattle.rz_node_model.specs.Records.{Records, listed, held_of, with_held, stamp_of}
+use Rattle.rz_node_model.specs.Records.{stamp_of}
 use Rattle.rz_node_model.specs.Versions.{kept, refilled, without, has_stamp, greater_goes}
 use Rattle.rz_core.specs.NodeWord.{itself}
 
@@ -23,27 +18,6 @@ key-same a b h = let p = and_parts (a.fid == b.fid) (a.block == b.block) h in ke
 
 pub same-key : (a : Key) → same_key a a ≡ true
 same-key a = λ i. eq-eqb a.fid a.fid refl i && eq-eqb a.block a.block refl i
-
-tied-same : (a b : Key) → eq_by_cmp key_cmp a b ≡ same_key a b
-tied-same a b = sym (tied_then (nat_cmp a.fid b.fid) (nat_cmp a.block b.block)) ∙ ap (λ t. t && is_eq (nat_cmp a.block b.block)) (unsigned_tied a.fid b.fid) ∙ ap (λ t. (a.fid == b.fid) && t) (unsigned_tied a.block b.block)
-
--- ---- the records of a key
-
-listed-some : (t : Bool) (rs : List Held) (o : Option (List Held)) → listed (cond t (Some rs) o) ≡ cond t rs (listed o)
-listed-some true rs o = refl
-listed-some false rs o = refl
-
-listed-none : (t : Bool) (o : Option (List Held)) → listed (cond t None o) ≡ cond t [] (listed o)
-listed-none true o = refl
-listed-none false o = refl
-
-pub held-with : (kept : Records) (key : Key) (rs : List Held) (q : Key) → held_of (with_held kept key rs) q ≡ cond (same_key q key) rs (held_of kept q)
-held-with kept key [] q =
-    ap listed (get-remove keys_total kept key q) ∙ listed-none (eq_by_cmp key_cmp q key) (maps.get kept q)
-    ∙ ap (λ t. cond t [] (held_of kept q)) (tied-same q key)
-held-with kept key (r ∷ rs) q =
-    ap listed (get-insert keys_total kept key (r ∷ rs) q) ∙ listed-some (eq_by_cmp key_cmp q key) (r ∷ rs) (maps.get kept q)
-    ∙ ap (λ t. cond t (r ∷ rs) (held_of kept q)) (tied-same q key)
 
 -- ---- stamps alone
 

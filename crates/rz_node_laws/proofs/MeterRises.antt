@@ -13,9 +13,8 @@ use Rattle.rz_node_model.specs.States.{NodeState}
 use Rattle.rz_node_model.specs.Answers.{IsNodeAnswer}
 use Rattle.rz_node.specs.Opens.{Opens}
 use Rattle.rz_node.specs.Spends.{Spends, keep_used, fetch_used, refill_used, drop_used}
-use Rattle.rz_node.specs.Calls.{Counts}
+use Rattle.rz_node.specs.Calls.{Counts, IsNoStart}
 use Rattle.rz_node.specs.Calls as calls
-use Rattle.rz_node_laws.specs.Metered.{IsNoStart}
 
 pub no-start : (question : NodeAsk) → calls.IsNoStart question → IsNoStart question
 no-start ask.Start no_start = absurd no_start

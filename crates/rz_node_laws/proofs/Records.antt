@@ -19,7 +19,8 @@ use Rattle.rz_core.specs.History.{Facts}
 use Rattle.rz_core.specs.HeldRecords.{record_on}
 use Rattle.rz_core.specs.NodeWord.{itself}
 use Rattle.rz_node_laws.specs.Records.{on_disk, stamps_of, records_in, IsRecordOf}
-use Rattle.rz_node_laws.proofs.Held.{key-same, same-key, held-with, has-stamp}
+use Rattle.rz_node_model.proofs.RecordLaws.{held_of-with_held}
+use Rattle.rz_node_laws.proofs.Held.{key-same, same-key, has-stamp}
 
 -- the record of a write, as it stands on the disk of node n
 abbrev pub written : Volume → Facts → ℕ → Key → ℕ → Option Rec
@@ -92,7 +93,7 @@ module _ (v : Volume) (f : Facts) (n : ℕ) (kept : held.Records) (key : Key) (a
 
   -- what is held then and is not new was held before
   before : (k : Key) (t : ℕ) → has_stamp stamp_of t (held_of later k) ≡ true → names (head_in new) k t ≡ false → has_stamp stamp_of t (held_of kept k) ≡ true
-  before k t has other = go (same_key k key) refl (ap (has_stamp stamp_of t) (sym (held-with kept key after k)) ∙ has)
+  before k t has other = go (same_key k key) refl (ap (has_stamp stamp_of t) (sym (held_of-with_held kept key after k)) ∙ has)
     where
       go : (b : Bool) → same_key k key ≡ b → has_stamp stamp_of t (cond b after (held_of kept k)) ≡ true → has_stamp stamp_of t (held_of kept k) ≡ true
       go false is has = has

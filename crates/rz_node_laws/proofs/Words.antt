@@ -35,7 +35,8 @@ use Rattle.rz_log_laws.specs.Places.{IsApart}
 use Rattle.rz_node_laws.specs.Records.{on_disk, stamps_of, records_in}
 use Rattle.rz_node_laws.specs.Images.{AreImages, IsImaged}
 use Rattle.rz_node_laws.specs.Laws.{IsLongerLaw, IsLogLaw, IsWrittenLaw, IsFetchLaw}
-use Rattle.rz_node_laws.proofs.Held.{key-same, held-with, kept-stamps, refilled-stamps, without-stamps}
+use Rattle.rz_node_model.proofs.RecordLaws.{held_of-with_held}
+use Rattle.rz_node_laws.proofs.Held.{key-same, kept-stamps, refilled-stamps, without-stamps}
 use Rattle.rz_node_laws.proofs.Records.{written, at-stamp, held-known}
 use Rattle.rz_node_laws.proofs.ImageCalls.{text-stands, fetch-up}
 
@@ -98,7 +99,7 @@ module _ (f : Facts) (w : List Event) (s : NodeState) (tied : IsNode f w s) wher
   -- the stamps of a key after a change of one key
   other-key : (key : Key) (rs : List Held) (after : List ℕ → List ℕ) → map stamp_of rs ≡ after (stamps_of s.held key) → (q : Key)
       → stamps_of (with_held s.held key rs) q ≡ cond (same_key q key) (after (held f w q)) (held f w q)
-  other-key key rs after is q = ap (map stamp_of) (held-with s.held key rs q) ∙ go (same_key q key) refl
+  other-key key rs after is q = ap (map stamp_of) (held_of-with_held s.held key rs q) ∙ go (same_key q key) refl
     where
       go : (b : Bool) → same_key q key ≡ b → map stamp_of (cond b rs (held_of s.held q)) ≡ cond b (after (held f w q)) (held f w q)
       go true same = is ∙ ap after (held-stamps key) ∙ ap (λ (k : Key). after (held f w k)) (sym (key-same q key same))

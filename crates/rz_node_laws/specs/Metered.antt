@@ -5,7 +5,6 @@ use Rattle.rz_events.specs.declared.keys.Actor.{Actor}
 use Rattle.rz_events.specs.declared.nodes.Phase.{Phase}
 use Rattle.rz_events.specs.declared.nodes.Phase.TheVariants.{Up}
 use Rattle.rz_events.specs.declared.nodes.NodeAsk.{NodeAsk}
-use Rattle.rz_events.specs.declared.nodes.NodeAsk.TheVariants as ask
 use Rattle.rz_events.specs.declared.nodes.NodeAnswer.{NodeAnswer}
 use Rattle.rz_events.specs.declared.nodes.StartAnswer.{StartAnswer}
 use Rattle.rz_events.specs.declared.nodes.StartAnswer.TheVariants as start
@@ -16,7 +15,7 @@ use Rattle.rz_node_model.specs.Answers.{IsNodeAnswer}
 use Rattle.rz_node_model.specs.Afterwards.{after_answer, after_start}
 use Rattle.rz_node_model.specs.NodeEvents.{node_event, start_event}
 use Rattle.rz_node.specs.Opens.{Opens}
-use Rattle.rz_node.specs.Calls.{Counts}
+use Rattle.rz_node.specs.Calls.{Counts, IsNoStart}
 use Rattle.rz_play.specs.Faults.{fuse_of, unplanned, slips, AreFaultsCounted}
 use Rattle.rz_play.specs.Lines.{noted}
 
@@ -30,12 +29,7 @@ pub record IsMetered (first : ℕ) (w : List Event) (phase : Phase) (m : Meter) 
   pub most : m.own ≡ first → (left l : ℕ) → fuse_of w ≡ Some left → m.fuse ≡ Some l → (l ≤ left) ⊎ ((phase ≡ Up → ⊥) × (l < 4))
   pub effect : m.own ≡ first → slips w ≡ 0
 
--- no start, before which a node is disarmed
-abbrev pub IsNoStart : NodeAsk → Type 0
-IsNoStart ask.Start = ⊥
-IsNoStart question = Unit {0}
-
--- A count of faults is taken to stay below the last value of a u64.
+-- A node is disarmed before a start, of which another law tells. A count of faults is taken to stay below the last value of a u64.
 abbrev pub IsFaultLaw : Type 0
 IsFaultLaw =
     (first k cells : ℕ) (w : List Event) (s : NodeState) (by : Actor) (n : ℕ) (question : NodeAsk) (given : NodeAnswer) (old new : Meter)

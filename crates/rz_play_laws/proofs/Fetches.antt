@@ -1,12 +1,12 @@
 -- One outcome more of the read of a block.
-use Rattle.std.proofs.Common.{◌≡◌, inl, inr, ◌≢◌, ℕ, zero, suc, ◌==◌, ◌+◌, ◌-◌, ◌^◌, ◌<◌, ◌≤◌, w16, Bool, true, false, cond, List, [], ◌∷◌, ◌++◌, length, get_or, set, replicate, refl, sym, ◌∙◌, ap, subst, arith, Some, bit_and}
+use Rattle.std.proofs.Common.{◌≡◌, ◌≢◌, ℕ, zero, suc, ◌==◌, ◌+◌, ◌-◌, ◌^◌, ◌<◌, ◌≤◌, w16, Bool, true, false, cond, List, [], ◌∷◌, ◌++◌, length, get_or, set, replicate, refl, sym, ◌∙◌, ap, subst, arith, Some, bit_and}
 use Rattle.std.specs.Prelude.{count_by, slice_get, bit_xor}
 use Rattle.std.specs.List.{AllByRecursion}
 use Rattle.std.specs.Int.{bit_at}
 use Rattle.std.specs.Int.Count.{count_trailing_zeros}
-use Rattle.std.proofs.lemmas.Bool.{eqb-true, eq-eqb, cases_lt}
+use Rattle.std.proofs.lemmas.Bool.{eqb-true, eq-eqb}
 use Rattle.std.proofs.lemmas.Nat.{and_le_l, xor_lt}
-use Rattle.std.proofs.lemmas.Nat.Bits.{bit_at-zero, bit_at-trailing_zeros, bit_at_and, bit_at_above, bit_at_xor, bit_at-pow_other, bit_at-pow_same, bit_at-lt, bit_at_ones}
+use Rattle.std.proofs.lemmas.Nat.Bits.{bit_at-zero, bit_at-trailing_zeros, bit_at_and, bit_at_xor, bit_at-pow_other, bit_at-pow_same, bit_at-lt, bit_at_ones}
 use Rattle.std.proofs.Math.Pow.{pow_mono, pow-lt, pow-sub-lt}
 use Rattle.std.proofs.lemmas.List.{get_or-set_same, get_or-set_other}
 use Rattle.std.proofs.lemmas.List.Sums.{sum_by-set, sum_by-cons}
@@ -28,7 +28,7 @@ use Rattle.rz_core.proofs.Extends.{Extends}
 use Rattle.rz_client_model.specs.declared.reading.Fetches.{Fetches}
 use Rattle.rz_client_model.specs.Read.{next_position, none_fetched}
 use Rattle.rz_play_laws.specs.Own.{IsPlacing, IsFetching}
-use Rattle.rz_client_model.proofs.Masks.{safe-few}
+use Rattle.rz_client_model.proofs.Masks.{in-below, safe-few}
 
 -- A table in which one outcome changes.
 
@@ -177,9 +177,6 @@ next-left left mask n some few most = go (bit_and left mask == 0) refl
         let there : 0 < bit_and left mask = positive (bit_and left mask) has in
         let least = bit_at-trailing_zeros w16 (bit_and left mask) there (omega (arith, and_le_l left mask, small)) in
         omega (arith, bit_at_and left mask p, least.1, bit_at-lt left p, bit_at-lt mask p)
-
-in-below : (a n p : ℕ) → a < 2 ^ n → bit_at a p ≡ 1 → p < n
-in-below a n p few h = elim (cases_lt p n) [ inl below ↦ below | inr above ↦ absurd (let z = bit_at_above a n p few above in omega (arith, z, h)) ]
 
 -- Position p of the read has the outcome w by the events xs, none of which begins it.
 module _ (v : Volume) (f g : Facts) (ext : Extends f g) (xs o : List Event) (start : Event → Bool) (key : Key) (places : List ℕ)

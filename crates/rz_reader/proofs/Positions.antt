@@ -1,23 +1,19 @@
 -- Sets of positions as masks.
-use Rattle.std.proofs.Common.{◌≡◌, ℕ, ◌+◌, ◌-◌, ◌*◌, ◌%◌, ◌^◌, ◌<◌, ◌≤◌, ◌≢◌, List, [], ◌∷◌, ◌++◌, length, min, arith, ap, ◌∙◌, sym, refl, subst, w16, inl, inr, ◌⊎◌, bit_and, bit_or}
-use Rattle.std.specs.Prelude.{All, bit_xor, ℤ}
-use Rattle.std.specs.Int.{bit_at, trailing_zeros}
+use Rattle.std.proofs.Common.{◌≡◌, ℕ, ◌-◌, ◌^◌, ◌<◌, ◌≤◌, ◌≢◌, List, arith, ap, w16, bit_and}
+use Rattle.std.specs.Prelude.{All, bit_xor}
+use Rattle.std.specs.Int.{bit_at}
 use Rattle.std.specs.Int.Count.{count_trailing_zeros}
 use Rattle.std.proofs.lemmas.Nat.{xor_lt, pow_below}
 use Rattle.std.proofs.Math.Pow.{pow_mono}
-use Rattle.std.proofs.lemmas.Bool.{cases_lt}
-use Rattle.std.proofs.lemmas.Nat.Bits.{bit_at-trailing_zeros, bit_at_and, bit_at_above, bit_at_xor, bit_at-pow_other, bit_at-pow_same, bit_at-lt}
+use Rattle.std.proofs.lemmas.Nat.Bits.{bit_at-trailing_zeros, bit_at_and, bit_at_xor, bit_at-pow_other, bit_at-pow_same, bit_at-lt}
 use Rattle.std.proofs.lemmas.List.Elements.{All-weaker}
 use Rattle.mj_angles.specs.declared.layout.Layout.{Layout}
-use Rattle.mj_angles.specs.Layout.{safe_of, inverse_of}
+use Rattle.mj_angles.specs.Layout.{safe_of}
 use Rattle.mj_inverse.specs.Fits.{Pair}
 use Rattle.rz_events.specs.declared.ends.Seen.{Seen}
 use Rattle.rz_client_model.specs.declared.reading.Fetches.{Fetches}
-use Rattle.rz_client_model.specs.Read.{next_position, with_seen, with_record}
+use Rattle.rz_client_model.specs.Read.{next_position, with_seen}
 use Rattle.rz_reader.specs.Inside.{IsAsked, IsFetching}
-
-pub safe-most : (layout : Layout) → safe_of layout ≤ 16
-safe-most layout = grind arith
 
 pub small : (a n : ℕ) → a < 2 ^ n → n ≤ 16 → a < 2 ^ 16
 small a n few h = omega (arith, few, pow_mono {i = n} {j = 16} h)
@@ -29,10 +25,6 @@ least-in n some few = (bit_at-trailing_zeros w16 n some few).1
 -- and a position in two sets is in the first
 pub in-first : (a b p : ℕ) → bit_at (bit_and a b) p ≡ 1 → bit_at a p ≡ 1
 in-first a b p h = omega (arith, bit_at_and a b p, h, bit_at-lt a p)
-
--- a position in a set of positions below n is below n
-pub in-below : (a n p : ℕ) → a < 2 ^ n → bit_at a p ≡ 1 → p < n
-in-below a n p few h = elim (cases_lt p n) [ inl below ↦ below | inr above ↦ absurd (omega (arith, bit_at_above a n p few above, h)) ]
 
 -- without one of its positions it has fewer
 pub without-below : (a n p : ℕ) → a < 2 ^ n → p < n → bit_xor a (2 ^ p) < 2 ^ n

@@ -12,7 +12,7 @@ use Rattle.rz_rebuild.specs.declared.step.RebuildStep.{RebuildStep}
 use Rattle.rz_rebuild.specs.declared.step.RebuildStep.TheVariants as step
 use Rattle.rz_rebuild.specs.Machine.{Machine, IsRebuildAfter, FitsIfEnough, IsBlockIn, pairs_in, told_in}
 use Rattle.rz_rebuild.specs.Kinds.{IsProbed, IsEnrolled, IsReplaced, IsRefillDone}
-use Rattle.rz_rebuild.specs.Inside.{IsStill, block_of, machine_of, pairs_of, state_of}
+use Rattle.rz_rebuild.specs.Inside.{IsStill, block_in_step, machine_of, pairs_of, state_of}
 
 pairs-still : (r : ReaderState) (s : RebuildStep) (pairs had : List Pair) → IsStill s → pairs_of s pairs ≡ pairs_in (state_of r s) had
 pairs-still r step.Probing pairs had h = refl
@@ -25,7 +25,7 @@ pairs-still r (step.Leaving t key why) pairs had h = refl
 pairs-still r (step.Ended end) pairs had h = refl
 
 block-still : (layout : Layout) (r : ReaderState) (s : RebuildStep) (had : List Pair) (block : Option Grid) → IsStill s →
-    IsBlockIn layout had (state_of r s) (block_of s block)
+    IsBlockIn layout had (state_of r s) (block_in_step s block)
 block-still layout r step.Probing had block h = refl
 block-still layout r (step.Enrolling loss) had block h = refl
 block-still layout r (step.Replacing loss fence) had block h = refl

@@ -38,13 +38,13 @@ abbrev pub pairs_of : RebuildStep → List Pair → List Pair
 pairs_of (step.Copying c) pairs = pairs
 pairs_of s pairs = []
 
-abbrev pub block_of : RebuildStep → Option Grid → Option Grid
-block_of (step.Refilling c length) block = block
-block_of s block = None
+abbrev pub block_in_step : RebuildStep → Option Grid → Option Grid
+block_in_step (step.Refilling c length) block = block
+block_in_step s block = None
 
 abbrev pub machine_of : Layout → ℕ → ReaderMachine → RebuildStep → Machine
 machine_of layout n r s =
-    record { layout = layout; node = n; state = state_of r.state s; pairs = pairs_of s r.pairs; block = block_of s r.block }
+    record { layout = layout; node = n; state = state_of r.state s; pairs = pairs_of s r.pairs; block = block_in_step s r.block }
 
 -- What holds between two answers.
 

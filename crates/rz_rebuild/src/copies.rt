@@ -7,7 +7,7 @@ ghost use Rattle.rz_reader.specs.Machine.{IsBlockOf, pairs_at};
 ghost use Rattle.rz_reader.specs.Told.{IsOtherTold, IsFetchedInto};
 ghost use Rattle.rz_operation_model.specs.Rebuild.{Going, IsNextAnswer, IsListed, IsRebuildAnswer, IsFetchingStamp, after_next, after_read, reader_of, base_after, ask_to_copy};
 ghost use Rattle.rz_rebuild.specs.Machine.{FitsIfEnough, IsBlockIn, ComeWith, pairs_in};
-ghost use Rattle.rz_rebuild.specs.Inside.{IsRebuildStep, IsListedRead, IsCopied, machine_of, state_of, tally_of, pairs_of, block_of, step_after};
+ghost use Rattle.rz_rebuild.specs.Inside.{IsRebuildStep, IsListedRead, IsCopied, machine_of, state_of, tally_of, pairs_of, block_in_step, step_after};
 ghost use Rattle.rz_rebuild.specs.Copies.{IsFetchAsk, IsCopyTold};
 
 use crate::answers::{end_of, leaving};
@@ -31,7 +31,7 @@ pub fn after_next(
     ensures inside { IsRebuildStep layout node reader.new result }
     ensures layout { reader.new.state.layout ≡ layout }
     ensures pairs { pairs_of result reader.new.pairs ≡ [] }
-    ensures block { block_of result reader.new.block ≡ None }
+    ensures block { block_in_step result reader.new.block ≡ None }
 {
     match listed {
         None => RebuildStep::Ended(end_of(&tally)),
@@ -192,7 +192,7 @@ fn after_read(layout: Layout, node: u16, copied: Copied, reader: &Reader) -> Reb
     ensures state { state_of reader.now.state result ≡ Going (after_read (tally_of copied.tally) copied.listed copied.base reader.now.state (reader_end reader.now.state)) }
     ensures inside { IsRebuildStep layout node reader.now result }
     ensures pairs { (had : List Pair) → reader.now.pairs ≡ pairs_at reader.now.state.stage had → pairs_of result reader.now.pairs ≡ pairs_in (state_of reader.now.state result) had }
-    ensures block { (had : List Pair) → IsBlockOf layout had reader.now.state.stage reader.now.block → IsBlockIn layout had (state_of reader.now.state result) (block_of result reader.now.block) }
+    ensures block { (had : List Pair) → IsBlockOf layout had reader.now.state.stage reader.now.block → IsBlockIn layout had (state_of reader.now.state result) (block_in_step result reader.now.block) }
 {
     match &reader.state().stage {
         ReadStage::Looking => unreachable!(),

@@ -19,11 +19,11 @@ use Rattle.rz_node_model.specs.Afterwards.{after_answer, after_start}
 use Rattle.rz_node_model.specs.NodeEvents.{node_event, start_event}
 use Rattle.rz_node.specs.Opens.{Opens, IfStarted, UnlessStarted}
 use Rattle.rz_node.specs.View.{NodeView}
-use Rattle.rz_node.specs.Calls.{Counts}
+use Rattle.rz_node.specs.Calls.{Counts, IsNoStart}
 use Rattle.rz_node.specs.Calls as calls
 use Rattle.rz_play.specs.Faults.{fuse_of}
 use Rattle.rz_play.specs.Lines.{noted}
-use Rattle.rz_node_laws.specs.Metered.{IsMetered, IsNoStart, IsFaultLaw, IsArmLaw, IsStartLaw, IsOpening, IsCounted}
+use Rattle.rz_node_laws.specs.Metered.{IsMetered, IsFaultLaw, IsArmLaw, IsStartLaw, IsOpening, IsCounted}
 use Rattle.rz_node_laws.proofs.MeterRises.{no-start, counts-last, opens-last}
 pub use Rattle.rz_node_laws.proofs.MeterRises.{armed-there}
 pub use Rattle.rz_node_laws.proofs.NodeWords.{noted-own}

@@ -105,7 +105,7 @@ fn refuses_in_order(rt: HostRuntime) -> Result<(), Fail> {
 }
 
 /// Reads a record into more words than it has, all of them 7, and gives some of them.
-#[tactic(auto, using(crate::proofs::Bins::few_bins))]
+#[tactic(auto, using(rz_record::proofs::Codec::few_bins))]
 fn read(rt: &(impl Abort + AllocGlobal), bytes: &[u8]) -> (Result<Head, RecordFault>, [u64; 4]) {
     let mut bins = words(rt.alloc(), 2050, 7).expect(rt, "memory");
     let head = decode_into(bytes, &mut bins);

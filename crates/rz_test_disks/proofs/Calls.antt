@@ -1,25 +1,8 @@
 -- What the calls of a disk that only counts its faults say of it as a disk.
-use Rattle.std.proofs.Common.{◌≡◌, ◌≤◌, ℕ, Result, Ok, Err, is_err, IsErrOf, OnOk, OnErr, arith}
+use Rattle.std.proofs.Common.{◌≡◌, ◌≤◌, ℕ, Result, Ok, Err, is_err, IsErrOf, arith}
 use Rattle.std.proofs.lemmas.Grind.{common_steps}
 use Rattle.rz_disk.specs.Meter.{Passes, Rises, faults}
 use Rattle.rz_test_disks.specs.Counted.{faults_after, own_faults}
-
--- what holds of each value holds where it is Ok, and where it is not
-pub on_ok : {T E : Type 0} {P : Type 0} (result : Result T E) → P → OnOk result P
-on_ok (Ok v) p = p
-on_ok (Err e) p = tt
-
-pub on_err : {T E : Type 0} {P : Type 0} (result : Result T E) → P → OnErr result P
-on_err (Ok v) p = tt
-on_err (Err e) p = p
-
-pub on_ok_map : {T E : Type 0} {P Q : Type 0} (result : Result T E) → (P → Q) → OnOk result P → OnOk result Q
-on_ok_map (Ok v) f p = f p
-on_ok_map (Err e) f p = tt
-
-pub on_err_map : {T E : Type 0} {P Q : Type 0} (result : Result T E) → (P → Q) → OnErr result P → OnErr result Q
-on_err_map (Ok v) f p = tt
-on_err_map (Err e) f p = f p
 
 -- a call that only counts its faults
 pub counts_only : {T E : Type 0} (result : Result T E) (old new : ℕ) → new ≡ faults_after (is_err result) old → Passes result (own_faults old) (own_faults new)

@@ -1,8 +1,7 @@
 -- The tests of the next part are its rules.
-use Rattle.std.proofs.Common.{◌≡◌, ℕ, suc, zero, ◌-◌, ◌<◌, ◌≤◌, Bool, true, false, not, cond, ◌&&◌, ◌↔◌, List, [], ◌∷◌, length, take, Option, Some, None, is_some, is_none, Ordering, sym, ap, ◌∙◌, refl, arith, eqb-true, eq-eqb}
+use Rattle.std.proofs.Common.{◌≡◌, ℕ, suc, zero, ◌-◌, Bool, true, false, not, cond, ◌&&◌, ◌↔◌, List, [], ◌∷◌, length, take, Option, Some, None, is_some, is_none, Ordering, sym, ap, ◌∙◌, refl, arith, eqb-true, eq-eqb}
 use Rattle.std.specs.Prelude.{◌==◌, nat_lt, nat_le}
 use Rattle.std.proofs.lemmas.Bool.{leb-true}
-use Rattle.std.proofs.lemmas.Bool.Decides.{nat_tests}
 use Rattle.std.specs.declared.cmp.Ordering.TheVariants.{Less, Equal, Greater}
 use Rattle.std.specs.declared.ops.Bound.TheVariants.{Included, Unbounded}
 use Rattle.std.specs.BTreeMap.Range.{entries_between}
@@ -31,6 +30,7 @@ use Rattle.rz_tree.proofs.Keys.{false-true}
 use Rattle.rz_tree.proofs.Lasts.{and-left, and-right}
 use Rattle.rz_tree.proofs.Tables.{get-objects, entries-objects}
 use Rattle.rz_tree.proofs.Rows.{Row, table_of, entries-row}
+use Rattle.rz_tree.proofs.Walks.{le-test, lt-test, test-lt}
 
 -- ---- the last number
 
@@ -117,15 +117,6 @@ no-items (x ∷ xs) h = let none : suc (length xs) ≡ 0 = eqb-true (suc (length
 
 nothing-test : {X : Type 0} (xs : List X) → xs ≡ [] → (length xs == 0) ≡ true
 nothing-test xs h = ap (λ ys. length ys == 0) h
-
-le-test : (a b : ℕ) → a ≤ b → nat_le a b ≡ true
-le-test a b h = grind (arith, nat_tests)
-
-lt-test : (a b : ℕ) → a < b → nat_lt a b ≡ true
-lt-test a b h = grind (arith, nat_tests)
-
-test-lt : (a b : ℕ) → nat_lt a b ≡ true → a < b
-test-lt a b h = grind (arith, nat_tests)
 
 nowhere-rule : (o : Object) → lies_nowhere o.cid o.places ≡ true → LiesNowhere o
 nowhere-rule o h = record {

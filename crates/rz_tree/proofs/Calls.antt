@@ -22,20 +22,15 @@ use Rattle.rz_names.proofs.PathOrder.{begins-front}
 use Rattle.rz_tree.proofs.Rules.{from-map, map-some, found-there}
 use Rattle.rz_tree.proofs.Names.{empty-under, leaf-under, absent-under}
 use Rattle.rz_tree.proofs.Adds.{or_none, given-false, none-from-is, absent-name}
-
-lt-true : (a b : ℕ) → a < b → nat_lt a b ≡ true
-lt-true a b h = grind (arith, nat_tests)
-
-lt-false : (a b : ℕ) → b ≤ a → nat_lt a b ≡ false
-lt-false a b h = grind (arith, nat_tests)
+use Rattle.rz_tree.proofs.Walks.{lt-test, not-lt}
 
 pub full-yes : (len n : ℕ) (last : Bool) → len ≡ n → 65536 < len → nat_lt 65536 len ≡ (nat_lt 65536 n || last)
 full-yes len n last same lt =
-    let yes : nat_lt 65536 len ≡ true = lt-true 65536 len lt in
+    let yes : nat_lt 65536 len ≡ true = lt-test 65536 len lt in
     yes ∙ sym (ap (λ b. b || last) (ap (nat_lt 65536) (sym same) ∙ yes))
 
 pub full-no : (len n : ℕ) (last : Bool) → len ≡ n → len ≤ 65536 → last ≡ (nat_lt 65536 n || last)
-full-no len n last same le = sym (ap (λ b. b || last) (ap (nat_lt 65536) (sym same) ∙ lt-false 65536 len le))
+full-no len n last same le = sym (ap (λ b. b || last) (ap (nat_lt 65536) (sym same) ∙ not-lt 65536 len le))
 
 module _ (names : FinMap path_cmp ℕ) (table : Table) (made : ℕ) (kept : IsKept names table made) where
   -- a path leads to a kept object
@@ -215,7 +210,7 @@ module _ (t : Tree) (rules : IsTree t) (p q : Path) (free : first_of (walk t p �
       go (n ∷ r) split begins =
           let dir_p : is_at t p is_dir ≡ true = walked-front t p n r (ap (walk t) (sym split) ∙ rename-walk) from in
           let longer : length p < length q = omega (arith, ap length split, length-append p (n ∷ r)) in
-          let below : is_below p q ≡ true = and_true (begins_with p q) (nat_lt (length p) (length q)) begins (lt-true (length p) (length q) longer) in
+          let below : is_below p q ≡ true = and_true (begins_with p q) (nat_lt (length p) (length q)) begins (lt-test (length p) (length q) longer) in
           absurd (false-true (sym (given-false (is_at t p is_dir && is_below p q) fault.IntoItself rename_3.0) ∙ and_true (is_at t p is_dir) (is_below p q) dir_p below))
 
   replace_last : (o : Option Found) → found_at t q ≡ o → (s d : Bool) → s ≡ false

@@ -1,14 +1,13 @@
 -- Whether each object has a name, by the counts of the kept ones.
 use Rattle.std.proofs.Common.{◌≡◌, ℕ, ◌<◌, ◌≤◌, Bool, true, false, cond, ◌&&◌, ◌↔◌, T, [], ◌∷◌, Some, None, is_some, Ordering, sym, ap, ◌∙◌, refl, arith}
 use Rattle.std.specs.Prelude.{nat_lt}
-use Rattle.std.proofs.lemmas.Bool.Decides.{nat_tests}
 use Rattle.std.specs.declared.cmp.Ordering.TheVariants.{Less, Equal, Greater}
 use Rattle.std.specs.declared.ops.Bound.TheVariants.{Included, Unbounded}
 use Rattle.std.specs.BTreeMap.Range.{entries_between}
 use Rattle.std.specs.List.Sorted.{IsStrictlySortedBy}
 use Rattle.std.specs.Map.{keys_of}
 use Rattle.std.specs.Option.{option_map}
-use Rattle.std.specs.Ordering.{nat_cmp, is_eq, is_le, is_lt, eq_by_cmp}
+use Rattle.std.specs.Ordering.{nat_cmp, is_eq, is_le, eq_by_cmp}
 use Rattle.std.specs.Cmp.{nat_cmp_total, ranked, tied_itself}
 use Rattle.std.specs.FinMap as maps
 use Rattle.std.specs.FinMap.{FinMap, get-entries, entries_sorted}
@@ -24,6 +23,7 @@ use Rattle.rz_tree.proofs.Keys.{not_none, held, same_some}
 use Rattle.rz_tree.proofs.Lasts.{and-left, and-right}
 use Rattle.rz_tree.proofs.Rules.{from-map}
 use Rattle.rz_tree.proofs.Tables.{get-objects}
+use Rattle.rz_tree.proofs.Walks.{lt-test, test-lt}
 use Rattle.rz_tree.proofs.Allowed.{and-both}
 use Rattle.rz_tree.proofs.Rows.{Row, table_of, entries-row}
 
@@ -56,12 +56,6 @@ all-linked (e ∷ es) h found =
     other : (q : ℕ) (i : Inode) (b : Bool) → eq_by_cmp nat_cmp q e.0 ≡ b → find nat_cmp q es ≡ Some i → cond b (Some e.1) (find nat_cmp q es) ≡ Some i
     other q i true tied at = absurd (not_none i (sym at ∙ none-above q e.0 es (eq_true (nat_cmp q e.0) tied) (left _ _ h)))
     other q i false apart at = at
-
-lt-test : (a b : ℕ) → a < b → nat_lt a b ≡ true
-lt-test a b h = grind (arith, nat_tests)
-
-test-lt : (a b : ℕ) → nat_lt a b ≡ true → a < b
-test-lt a b h = grind (arith, nat_tests)
 
 module _ (names : FinMap path_cmp ℕ) (table : Table) (made : ℕ) (counted : IsCounted names table) where
   named-rule : are_linked (maps.entries table) ≡ true → AreNamed (tree_of names table made)

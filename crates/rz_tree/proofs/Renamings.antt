@@ -69,7 +69,7 @@ module _ (t : Tree) (rules : IsTree t) (p to : Path) (away : begins_with p to �
   after = record t { names = moved p to t.names }
 
   -- no path begins with the one that is to be
-  clear : (q : Path) (f : ℕ) → maps.get t.names q ≡ Some f → begins_with to q ≡ false
+  pub clear : (q : Path) (f : ℕ) → maps.get t.names q ≡ Some f → begins_with to q ≡ false
   clear q f at = elim (true-or-false (begins_with to q)) [
     | inl begins ↦
         let split : q ≡ to ++ drop (length to) q = begins-front to q begins in
@@ -79,7 +79,7 @@ module _ (t : Tree) (rules : IsTree t) (p to : Path) (away : begins_with p to �
   ]
 
   -- a path that neither begins with `p` nor with `to` stays
-  stays : (q : Path) → begins_with to q ≡ false → begins_with p q ≡ false → maps.get (moved p to t.names) q ≡ maps.get t.names q
+  pub stays : (q : Path) → begins_with to q ≡ false → begins_with p q ≡ false → maps.get (moved p to t.names) q ≡ maps.get t.names q
   stays q not_to not_p = get-out t.names p to clear q not_to not_p
 
   dir_stays : (q : Path) → begins_with to q ≡ false → begins_with p q ≡ false → is_at t q is_dir ≡ true → is_at after q is_dir ≡ true
@@ -92,14 +92,14 @@ module _ (t : Tree) (rules : IsTree t) (p to : Path) (away : begins_with p to �
       let d = dir-found t (p ++ r) h in
       dir-is after (to ++ r) (record { fid = d.fid; object = d.object; at = get-in t.names p to clear r ∙ d.at; is = d.is; dir = d.dir })
 
-  not_from_root : begins_with p [] ≡ false
+  pub not_from_root : begins_with p [] ≡ false
   not_from_root = go p away
     where
       go : (p : Path) → begins_with p to ≡ false → begins_with p [] ≡ false
       go [] h = cc
       go (m ∷ p) h = refl
 
-  not_to_root : begins_with to [] ≡ false
+  pub not_to_root : begins_with to [] ≡ false
   not_to_root = go to other
     where
       go : (q : Path) → is_root q ≡ false → begins_with q [] ≡ false

@@ -1,7 +1,7 @@
 -- The first entry past a key, and the entry at the next place.
 use Rattle.std.proofs.Common.{◌≡◌, ℕ, zero, suc, ◌≤◌, ◌<◌, Bool, true, false, cond, ◌&&◌, T, List, [], ◌∷◌, Option, Some, Ordering, sym, ap, ◌∙◌, subst, refl, arith, slice_get}
 use Rattle.std.proofs.lemmas.Bool.Decides.{nat_tests}
-use Rattle.std.specs.Prelude.{nat_lt}
+use Rattle.std.specs.Prelude.{nat_lt, nat_le}
 use Rattle.std.specs.declared.cmp.Ordering.TheVariants.{Less, Equal, Greater}
 use Rattle.std.specs.declared.ops.Bound.{Bound}
 use Rattle.std.specs.declared.ops.Bound.TheVariants.{Unbounded}
@@ -21,13 +21,21 @@ use Rattle.rz_tree.proofs.Keys.{same_some, not_none}
 use Rattle.rz_tree.proofs.Rows.{Row, table_of, entries-row}
 use Rattle.rz_tree.proofs.Tables.{entries-objects}
 
--- ---- past a number
+-- ---- tests of numbers
 
-lt-test : (a b : ℕ) → a < b → nat_lt a b ≡ true
+pub le-test : (a b : ℕ) → a ≤ b → nat_le a b ≡ true
+le-test a b h = grind (arith, nat_tests)
+
+pub test-lt : (a b : ℕ) → nat_lt a b ≡ true → a < b
+test-lt a b h = grind (arith, nat_tests)
+
+pub lt-test : (a b : ℕ) → a < b → nat_lt a b ≡ true
 lt-test a b h = grind (arith, nat_tests)
 
-not-lt : (a b : ℕ) → b ≤ a → nat_lt a b ≡ false
+pub not-lt : (a b : ℕ) → b ≤ a → nat_lt a b ≡ false
 not-lt a b h = grind (arith, nat_tests)
+
+-- ---- past a number
 
 -- the test of numbers is that of their order
 pub lt-same : (a b : ℕ) → nat_lt a b ≡ is_lt (nat_cmp a b)

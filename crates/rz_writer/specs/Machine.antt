@@ -1,24 +1,21 @@
 -- What contracts see of a writer, and the bins that it gives.
 use Rattle.std.specs.Prelude.{ℕ, ◌≡◌, ◌<◌, List, length, Option, Some, None}
 use Rattle.mj_angles.specs.declared.layout.Layout.{Layout}
-use Rattle.mj_angles.specs.Layout.{inverse_of, cols_of, safe_of, angle_of, bins_at_of}
+use Rattle.mj_angles.specs.Layout.{safe_of, angle_of, bins_at_of}
 use Rattle.mj_forward.specs.Forward.{projection_of}
-use Rattle.rz_words.specs.Grid.{Grid, grid_from_bytes}
+use Rattle.rz_words.specs.Grid.{Grid}
 use Rattle.rz_events.specs.declared.keys.Key.{Key}
 use Rattle.rz_events.specs.declared.files.FileInfo.{FileInfo}
 use Rattle.rz_events.specs.declared.machines.WriterAsk.{WriterAsk}
 use Rattle.rz_events.specs.declared.machines.WriterAsk.TheVariants as ask
 use Rattle.rz_client_model.specs.declared.writing.WriterState.{WriterState}
+pub use Rattle.rz_client_model.specs.Blocks.{block_of}
 use Rattle.rz_client_model.specs.Write.{writer_start, writer_ask}
 
 -- the state of the write, and the block that is projected, which a bare writer does not have
 pub record Machine : Type 0 where
   pub state : WriterState
   pub block : Option Grid
-
--- the block with this text, which is followed by zeros
-abbrev pub block_of : Layout → List ℕ → Grid
-block_of layout text = grid_from_bytes (inverse_of layout) (cols_of layout) text
 
 abbrev pub key_in : FileInfo → ℕ → Key
 key_in info block = record { fid = info.fid; block = block }

@@ -1,5 +1,5 @@
 use Rattle.std.proofs.Common.{rules, ◌≤◌, ◌+◌, length}
-use Rattle.rz_batch.proofs.Parts.{starts-rise}
+use Rattle.mj_forward.proofs.Starts.{starts-rise}
 use Rattle.mj_angles.specs.Layout.{safe_of}
 use Rattle.rz_batch.proofs.batch.part_at.Goals as goal
 

@@ -7,7 +7,7 @@ use Rattle.rz_export_model.specs.Export.{new_export}
 use Rattle.rz_nodes.specs.declared.formatting.Server.{Server}
 use Rattle.rz_nodes.specs.Formatted.{disks_of}
 use Rattle.rz_journal.specs.JournalText.{IsTextOf}
-use Rattle.rz_journal.specs.Stands.{IsShut}
+use Rattle.rz_cells_slots.specs.Stands.{IsShut}
 use Rattle.rz_metadata.specs.declared.metadata.Metadata.{Metadata}
 use Rattle.rz_metadata.specs.Stands.{CountsFaults, IsJournalOpen, Stands, export_in, is_journaled}
 use Rattle.rz_driver.proofs.BehindJournal.{fault-is, journal-untouched}

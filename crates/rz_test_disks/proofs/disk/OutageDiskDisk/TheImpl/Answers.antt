@@ -1,7 +1,8 @@
 use Rattle.std.proofs.Common.{inl, ℕ, ◌+◌, ◌≤◌, List, replicate, length, refl, ap, subst}
 use Rattle.std.proofs.lemmas.List.{length-replicate}
 use Rattle.rz_test_disks.specs.Counted.{own_faults}
-use Rattle.rz_test_disks.proofs.Calls.{on_ok, on_err, on_ok_map, on_err_map, counts_only, own_lasts, own_rose, faults_rose}
+use Rattle.rz_disk.proofs.FileCalls.{on_ok, on_err, on_ok_map, on_err_map}
+use Rattle.rz_test_disks.proofs.Calls.{counts_only, own_lasts, own_rose, faults_rose}
 use Rattle.rz_test_disks.proofs.disk.OutageDiskDisk.TheImpl.Goals as goal
 
 -- the text of a disk of so many bytes, of which nothing is told

@@ -1,2 +1,0 @@
--- The lemmas of these tests.
-mod Alone
