@@ -5,7 +5,7 @@ use Rattle.std.specs.List.{AllByRecursion, IsDistinct, list_any, list_all}
 use Rattle.mj_angles.specs.Layout.{safe_of}
 use Rattle.rz_events.specs.Volume.{Volume, Cluster, nodes_of, IsCluster, IsVolume}
 use Rattle.rz_events.specs.declared.files.NodeSpec.{NodeSpec}
-use Rattle.rz_export_model.specs.Place.{Room, Rooms, rooms_of, clusters_of, is_better, best_of, is_before, at_its_place, in_order, placed_in, placed_among}
+use Rattle.rz_export_model.specs.Place.{NodeRoom, Rooms, rooms_of, clusters_of, is_better, best_of, is_before, at_its_place, in_order, placed_in, placed_among}
 use Rattle.rz_export_model.specs.Tree.{new_file}
 use Rattle.rz_export_model.specs.Export.{Export, new_places, free_of}
 use Rattle.rz_export_model.proofs.Rooms.{sids, all-insert, all-order, all-take, long-insert, long-order, long-take, rooms-sids, rooms-long, long-both, long-drop, best-of, clusters-long, map-long, all-there}
@@ -23,7 +23,7 @@ all-other : (m : ℕ) (ns : List ℕ) → AllByRecursion (λ z. nat_eq m z ≡ f
 all-other m [] all = tt
 all-other m (n ∷ ns) all = (turned m n all.0, all-other m ns all.1)
 
-distinct-insert : (n : Room) (ms : List Room) → AllByRecursion (λ z. nat_eq n.sid z ≡ false) (sids ms) → IsDistinct nat_eq (sids ms) → IsDistinct nat_eq (sids (at_its_place n ms))
+distinct-insert : (n : NodeRoom) (ms : List NodeRoom) → AllByRecursion (λ z. nat_eq n.sid z ≡ false) (sids ms) → IsDistinct nat_eq (sids ms) → IsDistinct nat_eq (sids (at_its_place n ms))
 unfolding IsDistinct
 distinct-insert n [] fresh distinct = (tt, tt)
 distinct-insert n (m ∷ ms) fresh distinct = go (is_before n m) (distinct-insert n ms fresh.1 distinct.1)
@@ -32,12 +32,12 @@ distinct-insert n (m ∷ ms) fresh distinct = go (is_before n m) (distinct-inser
     go true rest = (fresh, distinct)
     go false rest = (all-insert (λ z. nat_eq m.sid z ≡ false) n ms (turned n.sid m.sid fresh.0) distinct.0, rest)
 
-distinct-order : (ns : List Room) → IsDistinct nat_eq (sids ns) → IsDistinct nat_eq (sids (in_order ns))
+distinct-order : (ns : List NodeRoom) → IsDistinct nat_eq (sids ns) → IsDistinct nat_eq (sids (in_order ns))
 unfolding IsDistinct
 distinct-order [] all = tt
 distinct-order (n ∷ ns) all = distinct-insert n (in_order ns) (all-order (λ z. nat_eq n.sid z ≡ false) ns all.0) (distinct-order ns all.1)
 
-distinct-take : (k : ℕ) (ns : List Room) → IsDistinct nat_eq (sids ns) → IsDistinct nat_eq (sids (take k ns))
+distinct-take : (k : ℕ) (ns : List NodeRoom) → IsDistinct nat_eq (sids ns) → IsDistinct nat_eq (sids (take k ns))
 unfolding IsDistinct
 distinct-take zero ns all = tt
 distinct-take (suc k) [] all = tt

@@ -17,7 +17,7 @@ use Rattle.rz_events.specs.declared.tree.TreeFault.TheVariants as fault
 use Rattle.rz_events.specs.declared.events.Event.{Event}
 use Rattle.rz_events.specs.declared.events.Event.TheVariants as e
 use Rattle.rz_node_model.specs.Versions.{Stands}
-use Rattle.rz_export_model.specs.Place.{Room, Rooms, clusters_of, best_of, is_before, at_its_place, in_order, placed_in, placed_among, place}
+use Rattle.rz_export_model.specs.Place.{NodeRoom, Rooms, clusters_of, best_of, is_before, at_its_place, in_order, placed_in, placed_among, place}
 use Rattle.rz_export_model.specs.Tree.{Tree, Found, found_at}
 use Rattle.rz_export_model.specs.Refusals.{path_in, refusal}
 use Rattle.rz_export_model.specs.TreeCalls.{answer_to, reply_to}
@@ -65,7 +65,7 @@ are-distinct (n ∷ ns) all = (differ n ns all.0, are-distinct ns all.1)
 
 -- The rooms of a cluster, in order.
 
-distinct-insert : (n : Room) (ms : List Room) → AllByRecursion (λ m. m ≢ n.sid) (sids ms) → AreDistinct (sids ms) → AreDistinct (sids (at_its_place n ms))
+distinct-insert : (n : NodeRoom) (ms : List NodeRoom) → AllByRecursion (λ m. m ≢ n.sid) (sids ms) → AreDistinct (sids ms) → AreDistinct (sids (at_its_place n ms))
 distinct-insert n [] fresh distinct = (tt, tt)
 distinct-insert n (m ∷ ms) fresh distinct = go (is_before n m) (distinct-insert n ms fresh.1 distinct.1)
   where
@@ -73,11 +73,11 @@ distinct-insert n (m ∷ ms) fresh distinct = go (is_before n m) (distinct-inser
     go true rest = (fresh, distinct)
     go false rest = (all-insert (λ z. z ≢ m.sid) n ms (λ k. fresh.0 (sym k)) distinct.0, rest)
 
-distinct-order : (ns : List Room) → AreDistinct (sids ns) → AreDistinct (sids (in_order ns))
+distinct-order : (ns : List NodeRoom) → AreDistinct (sids ns) → AreDistinct (sids (in_order ns))
 distinct-order [] all = tt
 distinct-order (n ∷ ns) all = distinct-insert n (in_order ns) (all-order (λ z. z ≢ n.sid) ns all.0) (distinct-order ns all.1)
 
-distinct-take : (k : ℕ) (ns : List Room) → AreDistinct (sids ns) → AreDistinct (sids (take k ns))
+distinct-take : (k : ℕ) (ns : List NodeRoom) → AreDistinct (sids ns) → AreDistinct (sids (take k ns))
 distinct-take zero ns all = tt
 distinct-take (suc k) [] all = tt
 distinct-take (suc k) (n ∷ ns) all = (all-take (λ z. z ≢ n.sid) k ns all.0, distinct-take k ns all.1)
