@@ -62,7 +62,8 @@ use Rattle.rz_driver_actors.specs.declared.actor_agenda.Agenda.{Agenda}
 use Rattle.rz_driver.specs.Continued.{journal_refusal, losses_of, AreLeft, IsCauseAgain, IsJournalCause, IsNodeCause, IsOpenedAgain, IsOpenedOver, IsRefusedOver, IsUnopened}
 use Rattle.rz_driver.specs.Endings.{StandsForLog}
 use Rattle.rz_driver.specs.Journals.{KeepsLog, journal_place, StandsForJournal}
-use Rattle.rz_driver.specs.Coherence.{AreBytes, IsCoherent, KnowsLengths}
+use Rattle.rz_driver.specs.Coherence.{IsCoherent, KnowsLengths}
+use Rattle.rz_block_laws.specs.Acting.{AreBytes}
 use Rattle.rz_driver_actors.specs.Agendas.{IsEmptyAgenda}
 use Rattle.rz_driver.specs.Worlds.{HasCounted, is_known, left_behind, agenda_in, world_of, numbers_in, IsDriver, GoesAfter, HoldsBetweenTurns}
 use Rattle.rz_driver.proofs.Cuts.{each-server}

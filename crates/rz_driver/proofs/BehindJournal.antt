@@ -33,7 +33,8 @@ use Rattle.rz_driver_actors.specs.declared.actor_agenda.Agenda.{Agenda}
 use Rattle.rz_driver_actors.specs.declared.shared.Shared.{Shared}
 use Rattle.rz_driver.specs.Formatted.{IsBehindJournal, IsJournalBack, AreBackWithJournal, IsFault, IsJournalUnmade}
 use Rattle.rz_driver.specs.Journals.{KeepsLog, journal_place, StandsForJournal}
-use Rattle.rz_driver.specs.Coherence.{AreBytes, IsCoherent}
+use Rattle.rz_driver.specs.Coherence.{IsCoherent}
+use Rattle.rz_block_laws.specs.Acting.{AreBytes}
 use Rattle.rz_driver.specs.Worlds.{HasCounted, anew, world, world_of, numbers_in, IsDriver, IsCoherentAfter, HoldsBetweenTurns}
 use Rattle.rz_driver.proofs.Cuts.{each-server}
 use Rattle.rz_driver.proofs.ExportWords.{bytes-none}

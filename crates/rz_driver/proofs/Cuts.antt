@@ -17,13 +17,13 @@ use Rattle.rz_metadata.specs.declared.metadata.Metadata.{Metadata}
 use Rattle.rz_metadata.specs.declared.metadata.Metadata.TheVariants.{InMemory, Journaled}
 use Rattle.rz_metadata.specs.Journals.{IsRefused}
 use Rattle.rz_metadata.specs.Stands.{IsJournalOpen, refusal_of}
-use Rattle.rz_operation.specs.Machine.{Machine}
+use Rattle.rz_operation.specs.Machine.{Machine, work_in}
 use Rattle.rz_operation_model.specs.Ask.{ask_of}
 use Rattle.rz_play.specs.Stops.{HasCause, IsChange, JournalRefused, most_turns}
 use Rattle.rz_play.specs.World.{Agenda as APlayer, at_work}
 use Rattle.rz_player.specs.Behind.{Before}
 use Rattle.rz_player.specs.Ends.{EndsAfter, IsCut, StaysTrue}
-use Rattle.rz_driver_actors.specs.Agendas.{agenda_of, work_in}
+use Rattle.rz_driver_actors.specs.Agendas.{agenda_of}
 use Rattle.rz_driver_actors.specs.Stores.{Asks, AsksNothing, TurnsExport}
 use Rattle.rz_driver_actors.specs.declared.actor_agenda.Agenda.{Agenda}
 use Rattle.rz_driver.specs.declared.driver.Driver.{Driver}

@@ -18,7 +18,7 @@ use Rattle.rz_core.specs.Legal.{IsLegalInRuns}
 use Rattle.rz_core.proofs.Extends.{Extends, extends-more}
 use Rattle.rz_script.specs.Lines.{IsLine}
 use Rattle.rz_script.specs.declared.line.Line.{Line}
-use Rattle.rz_operation.specs.Machine.{Machine, text_of, text_asked}
+use Rattle.rz_operation.specs.Machine.{Machine, text_of, text_asked, work_in, HasLayout}
 use Rattle.rz_operation.specs.Machine as machine
 use Rattle.rz_operation_model.specs.Ask.{Ask, Say, Saying, ask_of}
 use Rattle.rz_play.specs.World.{World, Agenda as APlayer, with_agenda, at_work}
@@ -40,8 +40,9 @@ use Rattle.rz_nodes.specs.declared.formatting.Server.{Server}
 use Rattle.rz_driver_nodes.specs.Meters.{AreMetered, AreCounted, CarriesCounts}
 use Rattle.rz_driver_nodes.specs.Images.{AreImaged, IsServerRight, NodesStayCoherent, NodesUnchanged, fused_image}
 use Rattle.rz_driver_actors.specs.Hands.{HasTrueHand, IsTrueAgenda, StaysCoherent, LeavesUnchanged}
-use Rattle.rz_driver.specs.Coherence.{AreBytes, IsCoherent, KnowsLengths}
-use Rattle.rz_driver_actors.specs.Agendas.{HasLayout, agenda_of, work_in}
+use Rattle.rz_driver.specs.Coherence.{IsCoherent, KnowsLengths}
+use Rattle.rz_block_laws.specs.Acting.{AreBytes}
+use Rattle.rz_driver_actors.specs.Agendas.{agenda_of}
 use Rattle.rz_driver_nodes.specs.Servers.{state_in, numbers_of}
 use Rattle.rz_driver.specs.Worlds.{place_of, world, world_of, numbers_in, IsCoherentAfter, HasRightDisks, HoldsBetweenTurns, LeavesAtEnd}
 use Rattle.rz_driver_nodes.proofs.MessageCoherence.{never-bad}

@@ -16,7 +16,7 @@ use Rattle.rz_export_model.specs.ExportEvents.{export_event}
 use Rattle.rz_core.specs.History.{Begun, facts, wrote, begun_by, first_some, of_word}
 use Rattle.rz_core.proofs.NodeSteps.{the_some}
 use Rattle.rz_metadata.specs.Journals.{WritesBytes}
-use Rattle.rz_driver.specs.Coherence.{AreBytes}
+use Rattle.rz_block_laws.specs.Acting.{AreBytes}
 
 -- ---- behind an earlier log
 

@@ -38,7 +38,7 @@ use Rattle.rz_driver.specs.declared.driver.Driver.{Driver}
 use Rattle.rz_driver.specs.Endings.{AreCallsOf}
 use Rattle.rz_driver_actors.specs.Stores.{IsSameStore, TurnsExport, Asks, AsksNothing}
 use Rattle.rz_driver.specs.Journals.{KeepsLog, EndsLog, journal_place, StandsForJournal, LeavesJournal}
-use Rattle.rz_driver.specs.Coherence.{AreBytes}
+use Rattle.rz_block_laws.specs.Acting.{AreBytes}
 use Rattle.rz_driver.specs.Worlds.{is_known, world_of, IsCoherentAfter, LeavesAtEnd}
 use Rattle.rz_driver_actors.proofs.ExportEvents.{node-stays, noted-stays}
 use Rattle.rz_driver_actors.proofs.StoreLemmas.{same-store}

@@ -25,7 +25,8 @@ use Rattle.rz_driver_actors.specs.declared.shared.Shared.{Shared}
 use Rattle.rz_nodes.specs.declared.formatting.Server.{Server}
 use Rattle.rz_driver_asks.specs.Locking.{lock_of}
 use Rattle.rz_nodes.specs.Formatted.{IsNodeFormatted, AreFormatted}
-use Rattle.rz_driver_actors.specs.Agendas.{work_in, agenda_of, HasLayout, IsAgenda, IsEmptyAgenda}
+use Rattle.rz_driver_actors.specs.Agendas.{agenda_of, IsAgenda, IsEmptyAgenda}
+use Rattle.rz_operation.specs.Machine.{work_in, HasLayout}
 use Rattle.rz_driver_nodes.specs.Servers.{state_in, numbers_of, IsServer}
 use Rattle.rz_driver.specs.Worlds.{place_of, agenda_there, agenda_at, agenda_in, world, IsDriver}
 

@@ -14,7 +14,7 @@ use Rattle.mj_angles.specs.declared.layout.Layout.{Layout}
 use Rattle.rz_core.specs.NodeRows.{cells_of}
 use Rattle.rz_locks.specs.declared.conflict.Lock.{Lock}
 use Rattle.rz_locks.specs.Held.{Held}
-use Rattle.rz_operation.specs.Machine.{Machine}
+use Rattle.rz_operation.specs.Machine.{Machine, HasLayout}
 use Rattle.rz_operation.specs.Answers.{IsWithinLayout}
 use Rattle.rz_play.specs.World.{Agenda as APlayer}
 use Rattle.rz_driver_actors.specs.declared.actor_agenda.Agenda.{Agenda}
@@ -22,7 +22,7 @@ use Rattle.rz_driver_actors.specs.declared.shared.Shared.{Shared}
 use Rattle.rz_nodes.specs.declared.formatting.Server.{Server}
 use Rattle.rz_driver_actors.specs.Acts.{IsAct, Rests, Exports, Opens, Sends, Says, IsSameActor, IsFate, Through, ReplyLost, RequestLost, IsLockReleased, locks_after}
 use Rattle.rz_driver_asks.specs.Locking.{lock_of, lock_if, Grants}
-use Rattle.rz_driver_actors.specs.Agendas.{agenda_of, HasLayout, IsAgenda}
+use Rattle.rz_driver_actors.specs.Agendas.{agenda_of, IsAgenda}
 use Rattle.rz_driver_nodes.specs.Servers.{numbers_of, IsServer}
 use Rattle.rz_driver.specs.Worlds.{place_of, agenda_in, AreLocks, HaveNoLocks}
 use Rattle.rz_driver.proofs.WorldLemmas.{agenda-here, agenda-set, actor-is}

@@ -37,7 +37,8 @@ use Rattle.rz_core.proofs.Extends.{wrote-more}
 use Rattle.rz_core.proofs.Stamps.{wrote-cases, begun_by-is}
 use Rattle.rz_play.specs.Turns.{found_text, text_said}
 use Rattle.rz_block_laws.specs.InHand.{IsInHand, IsReadInHand, IsWriteBlock}
-use Rattle.rz_driver.specs.Coherence.{AreBytes, KnowsLength, KnowsLengths}
+use Rattle.rz_driver.specs.Coherence.{KnowsLength, KnowsLengths}
+use Rattle.rz_block_laws.specs.Acting.{AreBytes}
 
 -- each text that began has at most a block's bytes
 pub short-text : (v : Volume) (h : List Event) → IsLegalInRuns v h → (s : ℕ) (b : Begun) → wrote h s ≡ Some b → length b.text ≤ block_bytes_of v.layout

@@ -27,7 +27,7 @@ use Rattle.rz_locks.specs.Conflicts.{Conflict}
 use Rattle.rz_locks.specs.Held.{Held, Blocks}
 use Rattle.rz_metadata.specs.Stands.{export_in}
 use Rattle.rz_operation.specs.Answers.{IsWorkAfter}
-use Rattle.rz_operation.specs.Machine.{Machine, text_of}
+use Rattle.rz_operation.specs.Machine.{Machine, text_of, work_in, HasLayout}
 use Rattle.rz_operation_model.specs.Ask.{Ask, AskExport, AskNode, AskLock, Say, Rest, Saying, SayGot, SayGave, SayLeft, SayDone, ask_of}
 use Rattle.rz_operation_model.specs.Work.{Work, Over, Calling, Dropping, Opening, Locking, Writing, Reading, Rebuilding, Ending}
 use Rattle.rz_operation_model.specs.Steps.{Told, Replied, Locked, Answered, Missed, Noted, told, begun}
@@ -43,7 +43,7 @@ use Rattle.rz_driver_nodes.specs.Nodes.{IsNodeServed, IsAsked, IsThroughPart, Is
 use Rattle.rz_operation_model.specs.Turns.{said_event}
 use Rattle.rz_driver_asks.specs.Parts.{IsMachineTold, IsExportPart, IsSayPart, is_done}
 use Rattle.rz_player.specs.Behind.{behind}
-use Rattle.rz_driver_actors.specs.Agendas.{work_in, agenda_of, HasLayout}
+use Rattle.rz_driver_actors.specs.Agendas.{agenda_of}
 use Rattle.rz_driver_nodes.specs.Servers.{state_in, IsServer}
 use Rattle.rz_driver.specs.Worlds.{place_of, agenda_at, agenda_in, world, AreLocks, HaveNoLocks}
 use Rattle.rz_driver_nodes.proofs.Fits.{is_bad, told-true}

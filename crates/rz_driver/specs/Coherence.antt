@@ -1,7 +1,7 @@
 -- What is true beside the log of what actors have in hand and of the nodes' disks, where disks tell their texts. The log is the
 -- whole one: that of this run behind that of earlier runs.
 use Rattle.std.specs.Prelude.{ℕ, ◌≡◌, ◌<◌, ◌++◌, List, length, Some}
-use Rattle.std.specs.List.{All, AllByRecursion}
+use Rattle.std.specs.List.{AllByRecursion}
 use Rattle.rz_events.specs.Volume.{Volume, IsVolume}
 use Rattle.rz_events.specs.declared.keys.Actor.{Actor}
 use Rattle.rz_events.specs.declared.ends.ReadMark.TheVariants as mark
@@ -13,16 +13,13 @@ use Rattle.rz_operation_model.specs.Work.{Work, Reading}
 use Rattle.rz_player.specs.Behind.{behind}
 use Rattle.rz_play.specs.World.{World}
 use Rattle.rz_play_laws.specs.Fine.{IsFine}
+use Rattle.rz_block_laws.specs.Acting.{AreBytes}
 use Rattle.rz_driver_actors.specs.declared.actor_agenda.Agenda.{Agenda}
 use Rattle.rz_driver_actors.specs.Hands.{HasTrueHand}
 use Rattle.rz_nodes.specs.declared.formatting.Server.{Server}
 use Rattle.rz_driver_nodes.specs.Images.{AreImaged}
 
 -- Texts.
-
--- each write that began has a text of bytes
-abbrev pub AreBytes : Facts → Type 0
-AreBytes f = (s : ℕ) (b : Begun) → f.wrote s ≡ Some b → All (λ x. x < 256) b.text
 
 -- The write whose text a read looks for began, and the length that the first record told is that of its text.
 abbrev pub KnowsLength : Facts → ReadStage → Type 0

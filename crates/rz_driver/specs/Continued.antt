@@ -28,7 +28,7 @@ use Rattle.rz_driver_nodes.specs.Images.{AreDisksImaged}
 use Rattle.rz_driver_nodes.specs.Servers.{state_in}
 use Rattle.rz_driver.specs.declared.driver.Driver.{Driver}
 use Rattle.rz_driver.specs.Endings.{StandsForLog}
-use Rattle.rz_driver.specs.Coherence.{AreBytes}
+use Rattle.rz_block_laws.specs.Acting.{AreBytes}
 use Rattle.rz_driver_actors.specs.Agendas.{IsEmptyAgenda}
 use Rattle.rz_driver.specs.Worlds.{world_of, HoldsBetweenTurns, LeavesAtEnd}
 

@@ -12,7 +12,7 @@ use Rattle.rz_metadata.specs.Stands.{export_in, Stands}
 use Rattle.rz_metadata.specs.Journals.{EndsWith}
 use Rattle.rz_driver.specs.declared.driver.Driver.{Driver}
 use Rattle.rz_driver.specs.Endings.{AreCallsOf}
-use Rattle.rz_driver.specs.Coherence.{AreBytes}
+use Rattle.rz_block_laws.specs.Acting.{AreBytes}
 
 -- the journal stands for the calls of this log
 abbrev pub KeepsLog : {D : Type 0} → Bool → (D → Meter) → (D → List ℕ → Type 0) → ℕ → Metadata D → List Event → Type 0

@@ -10,13 +10,12 @@ use Rattle.rz_events.specs.declared.events.Word.TheVariants.{Export, Node, Own}
 use Rattle.rz_events.specs.Events.{word_of}
 use Rattle.rz_node_model.specs.NodeEvents.{node_event}
 use Rattle.rz_core.specs.History.{of_word}
-use Rattle.rz_operation.specs.Machine.{Machine, text_of}
+use Rattle.rz_operation.specs.Machine.{Machine, text_of, work_in, HasLayout}
 use Rattle.rz_operation_model.specs.Ask.{Ask, Saying, SayGot, SayGave, SayLeft, SayDone, ask_of}
 use Rattle.rz_operation_model.specs.Turns.{said_event}
 use Rattle.mj_angles.specs.declared.layout.Layout.{Layout}
 use Rattle.rz_driver_asks.specs.Asked.{LeavesAsked}
 use Rattle.rz_driver_asks.proofs.Keeping.{leaves-unasked}
-use Rattle.rz_driver_actors.specs.Agendas.{HasLayout, work_in}
 use Rattle.rz_driver_asks.specs.Parts.{IsSayPart}
 use Rattle.rz_metadata.specs.declared.metadata.Metadata.{Metadata}
 use Rattle.rz_metadata.specs.Stands.{CountsFaults, IsJournalOpen, export_in, is_journaled}

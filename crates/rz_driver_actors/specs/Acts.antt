@@ -10,7 +10,7 @@ use Rattle.rz_events.specs.declared.nodes.NodeAsk.{NodeAsk}
 use Rattle.rz_locks.specs.declared.conflict.LockKind.{LockKind}
 use Rattle.rz_locks.specs.declared.conflict.Range.{Range}
 use Rattle.rz_locks.specs.Held.{Held}
-use Rattle.rz_operation.specs.Machine.{Machine}
+use Rattle.rz_operation.specs.Machine.{Machine, work_in}
 use Rattle.rz_operation_model.specs.Ask.{Ask, AskExport, AskNode, AskLock, Say, Rest, Saying, ask_of}
 use Rattle.rz_metadata.specs.Stands.{export_in}
 use Rattle.rz_play.specs.Turns.{IsLost, IsThrough, lost_after}
@@ -22,7 +22,6 @@ use Rattle.rz_nodes.specs.declared.formatting.Server.{Server}
 use Rattle.rz_driver_asks.specs.Locking.{IsOpenPart}
 use Rattle.rz_driver_nodes.specs.Nodes.{IsAsked, IsThroughPart, IsReplyLostPart, IsRequestLostPart}
 use Rattle.rz_driver_asks.specs.Parts.{IsExportPart, IsSayPart}
-use Rattle.rz_driver_actors.specs.Agendas.{work_in}
 use Rattle.rz_driver_nodes.specs.Servers.{IsServerAt, IsCalled}
 
 abbrev pub HasLayouts : {D : Type 0} → Layout → List (Server D) → Type 0

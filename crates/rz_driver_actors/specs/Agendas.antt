@@ -1,28 +1,18 @@
 -- Actors, as a play has them.
-use Rattle.std.specs.Prelude.{◌≡◌, true, [], ◌∷◌, Option, Some, None}
+use Rattle.std.specs.Prelude.{◌≡◌, true, [], ◌∷◌, None}
 use Rattle.std.specs.List.{AllByRecursion}
 use Rattle.mj_angles.specs.declared.layout.Layout.{Layout}
 use Rattle.rz_events.specs.declared.operations.Operation.{Operation}
-use Rattle.rz_operation.specs.Machine.{Machine}
+use Rattle.rz_operation.specs.Machine.{HasLayout, work_in}
 use Rattle.rz_operation.specs.Answers.{IsWithinLayout}
-use Rattle.rz_operation_model.specs.Work.{Work, Over}
 use Rattle.rz_play.specs.World.{Agenda as APlayer, is_over}
 use Rattle.rz_driver_actors.specs.declared.actor_agenda.Agenda.{Agenda}
 use Rattle.rz_driver_asks.specs.Locking.{lock_of}
 
-abbrev pub work_in : Option Machine → Work
-work_in None = Over
-work_in (Some m) = m.work
-
 abbrev pub agenda_of : Agenda → APlayer
 agenda_of s = record { todo = s.todo.items; number = s.number; work = work_in s.machine; lock = lock_of s.lock; miss = s.miss }
 
--- a machine has the layout
-abbrev pub HasLayout : Layout → Option Machine → Type 0
-HasLayout layout None = Unit {0}
-HasLayout layout (Some m) = m.layout ≡ layout
-
--- and so have the operations that wait
+-- the machine has the layout, and so have the operations that wait
 pub record IsAgenda (layout : Layout) (s : Agenda) : Type 0 where
   pub machine : HasLayout layout s.machine
   pub todo : AllByRecursion (IsWithinLayout layout) s.todo.items

@@ -8,7 +8,7 @@ ghost use Rattle.rz_operation_model.specs.Ask.{ask_of};
 ghost use Rattle.rz_play.specs.Turns as model;
 ghost use Rattle.rz_driver_asks.specs.Locking.{lock_of};
 ghost use Rattle.rz_driver_nodes.specs.Nodes.{IsAsked};
-ghost use Rattle.rz_driver_actors.specs.Agendas.{HasLayout, work_in};
+ghost use Rattle.rz_operation.specs.Machine.{work_in, HasLayout};
 ghost use Rattle.rz_player.specs.Messages.{IsSent};
 ghost use Rattle.rz_driver_nodes.specs.Meters.{AreMetered, AreCounted, CarriesCounts};
 ghost use Rattle.rz_metadata.specs.Stands.{IsJournalOpen};

@@ -1,5 +1,5 @@
 -- What contracts see of a machine, and the bins and the text that it gives.
-use Rattle.std.specs.Prelude.{ℕ, Bool, true, false, ◌≡◌, List, [], take, Option, Some, IsSomeAnd}
+use Rattle.std.specs.Prelude.{ℕ, Bool, true, false, ◌≡◌, List, [], take, Option, Some, None, IsSomeAnd}
 use Rattle.mj_angles.specs.declared.layout.Layout.{Layout}
 use Rattle.mj_angles.specs.Layout.{angle_of}
 use Rattle.mj_forward.specs.Forward.{projection_of}
@@ -25,6 +25,16 @@ pub record Machine : Type 0 where
 abbrev pub is_over : Work → Bool
 is_over Over = true
 is_over work = false
+
+-- what an actor has in hand, with a machine or with none
+abbrev pub work_in : Option Machine → Work
+work_in None = Over
+work_in (Some m) = m.work
+
+-- a machine has the layout
+abbrev pub HasLayout : Layout → Option Machine → Type 0
+HasLayout layout None = Unit {0}
+HasLayout layout (Some m) = m.layout ≡ layout
 
 -- The bins of what a node is to keep, or to have as a refill.
 

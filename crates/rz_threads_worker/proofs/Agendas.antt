@@ -8,7 +8,7 @@ use Rattle.rz_events.specs.declared.events.Event.{Event}
 use Rattle.rz_events.specs.declared.operations.Operation.{Operation}
 use Rattle.rz_script.specs.Lines.{IsOperation}
 use Rattle.rz_operation.specs.Answers as answers
-use Rattle.rz_operation.specs.Machine.{Machine}
+use Rattle.rz_operation.specs.Machine.{Machine, work_in, HasLayout}
 use Rattle.rz_operation_model.specs.Work.{Work, Calling, Dropping, Opening, Locking, Writing, Reading, Rebuilding, Ending, Over}
 use Rattle.rz_operation_model.specs.Steps.{begun}
 use Rattle.rz_core.specs.History.{facts, of_actor}
@@ -20,7 +20,7 @@ use Rattle.rz_chronicle.specs.Kinds.{volume_in}
 use Rattle.rz_chronicle.specs.Rules.{PassView}
 use Rattle.rz_threads_steps.specs.Acted.{IsWorkRight}
 use Rattle.rz_threads_worker.specs.declared.worker_agenda.Agenda.{Agenda}
-use Rattle.rz_threads_worker.specs.Workers.{work_in, agenda_of, HasLayout, IsAtHand, IsWorkerReady, BeginsNext, Works, Rests, Begins}
+use Rattle.rz_threads_worker.specs.Workers.{agenda_of, IsAtHand, IsWorkerReady, BeginsNext, Works, Rests, Begins}
 
 -- ---- in the words of a play
 

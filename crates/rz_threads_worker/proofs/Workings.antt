@@ -7,7 +7,7 @@ use Rattle.rz_events.specs.Volume.{Volume}
 use Rattle.rz_events.specs.declared.keys.Actor.{Actor}
 use Rattle.rz_events.specs.declared.events.Event.{Event}
 use Rattle.rz_script.specs.Lines.{IsOperation}
-use Rattle.rz_operation.specs.Machine.{Machine}
+use Rattle.rz_operation.specs.Machine.{Machine, work_in}
 use Rattle.rz_core.specs.History.{of_actor}
 use Rattle.rz_play.specs.World.{Agenda as APlayer}
 use Rattle.rz_chronicle.specs.Kinds.{is_honest, volume_in}
@@ -17,7 +17,7 @@ use Rattle.rz_threads_steps.specs.Acted.{PassLasts, HasActed}
 use Rattle.rz_threads_steps.specs.Turned.{IsCutOff, AreLost}
 use Rattle.rz_threads_worker.specs.declared.worker_agenda.Agenda.{Agenda}
 use Rattle.rz_threads_worker.specs.Doing.{HasDone, IsSomeDone}
-use Rattle.rz_threads_worker.specs.Workers.{IsWorkerReady, BeginsNext, agenda_of, work_in}
+use Rattle.rz_threads_worker.specs.Workers.{IsWorkerReady, BeginsNext, agenda_of}
 use Rattle.rz_threads_worker.proofs.Doings.{turn-done, cut-begun, done-on, lost-on}
 use Rattle.rz_threads_worker.proofs.Agendas.{taken-up}
 

@@ -9,8 +9,8 @@ use Rattle.rz_events.specs.declared.keys.Actor.TheVariants.{Admin}
 use Rattle.rz_events.specs.declared.events.Event.{Event}
 use Rattle.rz_events.specs.declared.operations.Operation.{Operation}
 use Rattle.rz_script.specs.Lines.{IsOperation}
-use Rattle.rz_operation.specs.Machine.{Machine}
-use Rattle.rz_operation_model.specs.Work.{Work, Over}
+use Rattle.rz_operation.specs.Machine.{Machine, HasLayout, work_in}
+use Rattle.rz_operation_model.specs.Work.{Over}
 use Rattle.rz_core.specs.History.{of_actor}
 use Rattle.rz_core.specs.Own.{IsBetween}
 use Rattle.rz_operation_model.specs.Steps.{begun}
@@ -22,18 +22,9 @@ use Rattle.rz_show.specs.Shown.{shown_of}
 use Rattle.rz_threads_worker.specs.declared.worker_agenda.Agenda.{Agenda}
 use Rattle.rz_threads_worker.specs.Doing.{HasDone}
 
-abbrev pub work_in : Option Machine → Work
-work_in None = Over
-work_in (Some m) = m.work
-
 -- the actor of a play that a worker's agenda stands for
 abbrev pub agenda_of : Agenda → APlayer
 agenda_of s = record { todo = s.todo.items; number = s.number; work = work_in s.machine; lock = None; miss = None }
-
--- a machine has the layout
-abbrev pub HasLayout : Layout → Option Machine → Type 0
-HasLayout layout None = Unit {0}
-HasLayout layout (Some m) = m.layout ≡ layout
 
 -- the operation in hand is right beside the log, or none is in hand
 abbrev pub IsAtHand : Volume → List Event → Actor → ℕ → Option Machine → Type 0

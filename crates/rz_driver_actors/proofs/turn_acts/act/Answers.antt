@@ -5,9 +5,8 @@ use Rattle.rz_events.specs.declared.export.Call.TheVariants as call
 use Rattle.rz_events.specs.declared.tree.TreeCall.TheVariants as tree
 use Rattle.rz_export_model.specs.Export.{export_reply}
 use Rattle.rz_metadata.specs.Stands.{IsJournalOpen, export_in}
-use Rattle.rz_operation.specs.Machine.{text_of}
+use Rattle.rz_operation.specs.Machine.{text_of, work_in}
 use Rattle.rz_operation_model.specs.Ask.{Ask, ask_of}
-use Rattle.rz_driver_actors.specs.Agendas.{work_in}
 use Rattle.rz_driver_asks.specs.Asked.{KeepsAsked, LeavesAsked, call_asked}
 use Rattle.rz_driver_actors.specs.Stores.{Asks, AsksNothing}
 use Rattle.rz_driver_actors.proofs.StoreLemmas.{ask-there, fate-stays, leaves-with-it, said-stays-export, same-store}

@@ -10,7 +10,8 @@ use Rattle.rz_player.specs.Behind.{behind}
 use Rattle.rz_script.specs.declared.line.Line.TheVariants as line
 use Rattle.rz_driver_actors.specs.declared.actor_agenda.Agenda.{Agenda}
 use Rattle.rz_driver_asks.specs.Locking.{lock_of}
-use Rattle.rz_driver_actors.specs.Agendas.{IsAgenda, HasLayout, work_in, agenda_of}
+use Rattle.rz_driver_actors.specs.Agendas.{IsAgenda, agenda_of}
+use Rattle.rz_operation.specs.Machine.{work_in, HasLayout}
 use Rattle.rz_driver.specs.Worlds.{place_of, world, world_of}
 use Rattle.rz_driver_nodes.proofs.Rows.{all-at}
 use Rattle.rz_driver.proofs.OrderLemmas.{ordered, still-ready, all-more}

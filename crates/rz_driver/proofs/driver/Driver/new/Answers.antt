@@ -8,7 +8,7 @@ use Rattle.rz_events.specs.declared.events.Event.{Event}
 use Rattle.rz_export_model.specs.Export.{Export}
 use Rattle.rz_core.specs.History.{facts}
 use Rattle.rz_driver.specs.Journals.{KeepsLog}
-use Rattle.rz_driver.specs.Coherence.{AreBytes}
+use Rattle.rz_block_laws.specs.Acting.{AreBytes}
 use Rattle.rz_driver.proofs.ExportWords.{bytes-none}
 use Rattle.rz_driver.proofs.KeptCalls.{no-calls}
 use Rattle.rz_nodes.specs.Formatted.{AreFormatted, AreBack}

@@ -2,7 +2,8 @@ use Rattle.std.proofs.Common.{refl, sym, ◌∙◌, ap, subst, arith}
 use Rattle.std.specs.List.{AllByRecursion}
 use Rattle.rz_operation.specs.Answers.{IsWithinLayout}
 use Rattle.rz_driver_actors.specs.Hands.{HasTrueHand}
-use Rattle.rz_driver_actors.specs.Agendas.{agenda_of, work_in, HasLayout, LosesNext}
+use Rattle.rz_driver_actors.specs.Agendas.{agenda_of, LosesNext}
+use Rattle.rz_operation.specs.Machine.{work_in, HasLayout}
 use Rattle.rz_driver_nodes.proofs.CoherenceLemmas.{on-err}
 use Rattle.rz_driver_actors.proofs.AgendaLemmas.{over-now, taken-up}
 use Rattle.rz_driver_actors.proofs.actor_agenda.Agenda.begin_next.Goals as goal
