@@ -3,6 +3,7 @@ pub mod Extends
 pub mod Rows
 pub mod Locality
 pub mod Stamps
+pub mod Wrote
 pub mod NodeLaws
 pub mod NodeSays
 pub mod NodeTies

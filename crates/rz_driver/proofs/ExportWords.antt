@@ -1,5 +1,5 @@
 -- The events of the export's word, and the texts of the writes that begin, which stand in it alone.
-use Rattle.std.proofs.Common.{◌≡◌, ℕ, Bool, true, false, cond, ◌==◌, ◌<◌, List, [], ◌∷◌, ◌++◌, Option, Some, None, refl, sym, ◌∙◌, ap, subst}
+use Rattle.std.proofs.Common.{◌≡◌, ℕ, Bool, true, false, cond, ◌==◌, ◌<◌, List, [], ◌∷◌, ◌++◌, Option, Some, None, sym, ◌∙◌, ap, subst}
 use Rattle.std.specs.List.{All}
 use Rattle.std.proofs.lemmas.List.Elements.{filter-append}
 use Rattle.rz_events.specs.declared.keys.Actor.{Actor}
@@ -10,11 +10,11 @@ use Rattle.rz_events.specs.declared.export.Reply.{Reply}
 use Rattle.rz_events.specs.declared.export.Reply.TheVariants as reply
 use Rattle.rz_events.specs.declared.events.Word.TheVariants.{Export}
 use Rattle.rz_events.specs.declared.events.Event.{Event}
-use Rattle.rz_events.specs.declared.events.Event.TheVariants as e
 use Rattle.rz_events.specs.Events.{word_of, same_word}
 use Rattle.rz_export_model.specs.ExportEvents.{export_event}
 use Rattle.rz_core.specs.History.{Begun, facts, wrote, begun_by, first_some, of_word}
 use Rattle.rz_core.proofs.NodeSteps.{the_some}
+use Rattle.rz_core.proofs.Wrote.{wrote-export}
 use Rattle.rz_metadata.specs.Journals.{WritesBytes}
 use Rattle.rz_block_laws.specs.Acting.{AreBytes}
 
@@ -30,23 +30,6 @@ same-behind log log2 old same = word-behind log2 old ∙ ap (λ (h : List Event)
 
 none-begun : {A : Type 0} (b : Begun) → None ≡ Some b → A
 none-begun b is = absurd (cc)
-
--- only the export's word has writes that begin
-not-begun : (s : ℕ) (x : Event) → same_word Export (word_of x) ≡ false → begun_by s x ≡ None
-not-begun s (e.Begin by key stamp base text) is = absurd cc
-not-begun s _ is = refl
-
-first-none : (o : Option Begun) (p : Option Begun) → p ≡ None → first_some o p ≡ o
-first-none None p none = none
-first-none (Some b) p none = refl
-
-wrote-export : (h : List Event) (s : ℕ) → wrote (of_word Export h) s ≡ wrote h s
-wrote-export [] s = refl
-wrote-export (x ∷ h) s = go (same_word Export (word_of x)) refl (wrote-export h s)
-  where
-    go : (b : Bool) → same_word Export (word_of x) ≡ b → wrote (of_word Export h) s ≡ wrote h s → wrote (cond b (x ∷ of_word Export h) (of_word Export h)) s ≡ first_some (wrote h s) (begun_by s x)
-    go true is rest = ap (λ (o : Option Begun). first_some o (begun_by s x)) rest
-    go false is rest = rest ∙ sym (first-none (wrote h s) (begun_by s x) (not-begun s x is))
 
 -- a log with the same events of the export
 pub bytes-same : (h h' : List Event) → of_word Export h' ≡ of_word Export h → AreBytes (facts h) → AreBytes (facts h')

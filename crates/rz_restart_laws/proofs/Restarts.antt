@@ -20,6 +20,7 @@ use Rattle.rz_core.specs.Legal.{IsLegalInRuns}
 use Rattle.rz_core.proofs.NodeLaws.{node, at-node, at-own}
 use Rattle.rz_core.proofs.NodeTies.{same-facts}
 use Rattle.rz_core.proofs.Stamps.{export}
+use Rattle.rz_log_laws.proofs.Losses.{node-is}
 use Rattle.rz_restart_laws.specs.Earlier.{numbers, stopped_if, stopped, started, restarted}
 use Rattle.rz_restart_laws.specs.Laws.{MayRestart}
 
@@ -42,9 +43,6 @@ pub numbers-apart : (v : Volume) → IsVolume v → Apart (numbers v)
 numbers-apart v rules = apart (numbers v) rules.distinct_sids
 
 -- ---- the words after one event of a node
-
-node-is : (m n : ℕ) → Node m ≡ Node n → m ≡ n
-node-is m n is = cc
 
 pub other-word : (x : Event) (h : List Event) (n m : ℕ) → word_of x ≡ Node n → n ≢ m → node m (x ∷ h) ≡ node m h
 other-word x h n m of other = at-node x h m (λ w. w ≡ node m h) (λ is. absurd (other (node-is n m (sym of ∙ is)))) refl
