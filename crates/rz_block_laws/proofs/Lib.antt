@@ -7,7 +7,7 @@ mod Takes
 mod Sent
 mod Turns
 mod Fresh
-mod Texts
-mod Sayings
+pub mod Texts
+pub mod Sayings
 pub mod Starts
 mod Acts

@@ -33,7 +33,7 @@ use Rattle.rz_block_laws.specs.Acting.{IsTextKnown, KnowsText, KnowsTexts}
 
 -- ---- the bytes of a block are those of its text
 
-room : (y : Layout) → block_bytes_of y ≡ 8 * (inverse_of y * cols_of y)
+pub room : (y : Layout) → block_bytes_of y ≡ 8 * (inverse_of y * cols_of y)
 room layouts.L0 = refl
 room layouts.L1 = refl
 room layouts.L2 = refl
@@ -47,7 +47,7 @@ room layouts.L2B1 = refl
 room layouts.L2B2 = refl
 room layouts.L2B3 = refl
 
-same-begun : (a b : Begun) → Some a ≡ Some b → a ≡ b
+pub same-begun : (a b : Begun) → Some a ≡ Some b → a ≡ b
 same-begun a b is = cc
 
 module _ (y : Layout) (f : Facts) (key : Key) (stamp size : ℕ) (known : IsTextKnown f stamp) (long : size ≡ length known.begun.text) (short : length known.begun.text ≤ block_bytes_of y) where
@@ -63,7 +63,7 @@ module _ (y : Layout) (f : Facts) (key : Key) (stamp size : ℕ) (known : IsText
 
 -- ---- what is said
 
-same-saying : (a b : Saying) → Say a ≡ Say b → a ≡ b
+pub same-saying : (a b : Saying) → Say a ≡ Say b → a ≡ b
 same-saying a b is = cc
 
 module _ (y : Layout) (f : Facts) (block : Option Grid) (s : Saying) where

@@ -55,10 +55,10 @@ module _ (f g : Facts) (grows : GrowsTo f g) where
 
 -- ---- a record came, or none
 
-not-zero : (n : ℕ) → (suc n == 0) ≡ false
+pub not-zero : (n : ℕ) → (suc n == 0) ≡ false
 not-zero n = grind (arith, nat_tests)
 
-same-begun : (a b : Begun) → Some a ≡ Some b → a ≡ b
+pub same-begun : (a b : Begun) → Some a ≡ Some b → a ≡ b
 same-begun a b is = cc
 
 module _ (y : Layout) (g : Facts) (t : Fetches) (known : IsTextKnown g t.stamp) (long : 0 < t.given → t.length ≡ length known.begun.text) where

@@ -26,15 +26,15 @@ pub record Settled (kind : List ℕ) (old : PassView) (done : List WordTokenView
 abbrev pub Settles : List ℕ → PassView → WordTokenView → List WordTokenView → List WordTokenView → PassView → Type 0
 Settles kind old export all rest new = (done : List WordTokenView) × (all ≡ done ++ rest) × Settled kind old (export ∷ done) new
 
-one-of-left : (k : ℕ) (xs ys : List ℕ) → IsOneOf k xs → IsOneOf k (xs ++ ys)
+pub one-of-left : (k : ℕ) (xs ys : List ℕ) → IsOneOf k xs → IsOneOf k (xs ++ ys)
 one-of-left k [] ys h = absurd h
 one-of-left k (x ∷ xs) ys h = elim h [ inl e ↦ inl e | inr more ↦ inr (one-of-left k xs ys more) ]
 
-one-of-right : (k : ℕ) (xs ys : List ℕ) → IsOneOf k ys → IsOneOf k (xs ++ ys)
+pub one-of-right : (k : ℕ) (xs ys : List ℕ) → IsOneOf k ys → IsOneOf k (xs ++ ys)
 one-of-right k [] ys h = h
 one-of-right k (x ∷ xs) ys h = inr (one-of-right k xs ys h)
 
-later-still : (a b c : List Event) → IsLater a b → IsLater b c → IsLater a c
+pub later-still : (a b c : List Event) → IsLater a b → IsLater b c → IsLater a c
 later-still a b c p q = (q.0 ++ p.0, q.1 ∙ (ap (λ (l : List Event). q.0 ++ l) p.1 ∙ sym (append_assoc q.0 p.0 a)))
 
 -- what was settled stays so

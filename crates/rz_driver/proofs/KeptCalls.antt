@@ -21,6 +21,7 @@ use Rattle.rz_play_laws.specs.Own.{IsOwnOf, HasOwnEvents, IsProper, IsOwnProper}
 use Rattle.rz_restart_laws.specs.Calls.{changing_calls, AreCallsTold, HasLength}
 use Rattle.rz_restart_laws.specs.Laws.{IsCallTold, IsNoCall}
 use Rattle.rz_driver_asks.specs.Asked.{call_asked}
+use Rattle.rz_driver_asks.proofs.Keeping.{same-call}
 use Rattle.rz_driver.specs.Endings.{AreCallsOf}
 use Rattle.rz_driver_actors.proofs.ExportEvents.{word-grows}
 
@@ -54,9 +55,6 @@ calls-same v untold h more true legal same calls are = are ∙ sym (untold h mor
 calls-same v untold h more false legal same calls are = subst (λ (w : List Event). AreCallsTold w calls) (sym same) are
 
 -- ---- the call that a machine asks for
-
-same-call : (a c : Call) → Some a ≡ Some c → a ≡ c
-same-call a c is = cc
 
 module _ (v : Volume) (f g : Facts) (grows : Extends f g) (own run : List Event) (by : Actor) (number : ℕ) where
   -- a publish tells the length of its text, however the log grows

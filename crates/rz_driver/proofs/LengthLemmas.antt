@@ -49,6 +49,7 @@ use Rattle.rz_play_laws.specs.Own.{IsToldBy}
 use Rattle.rz_play_laws.specs.Fine.{IsTelling, IsFine}
 use Rattle.rz_play_laws.proofs.Frames.{same_actor-true}
 use Rattle.rz_play_laws.proofs.Turning.{agenda-mine, agenda-other, in-runs}
+use Rattle.rz_block_laws.proofs.Texts.{same-begun, not-zero}
 use Rattle.rz_driver.specs.Coherence.{KnowsLength, KnowsLengths}
 use Rattle.rz_driver.proofs.FreshLengths.{got, calling, dropping, opening, locking, writing, rebuilding, ending}
 
@@ -65,12 +66,6 @@ module _ (f g : Facts) (grows : Extends f g) where
   lengths-grow _ k = tt
 
 -- ---- a record came, or none
-
-not-zero : (n : ℕ) → (suc n == 0) ≡ false
-not-zero n = grind (arith, nat_tests)
-
-same-begun : (a b : Begun) → Some a ≡ Some b → a ≡ b
-same-begun a b is = cc
 
 module _ (y : Layout) (g : Facts) (t : Fetches) (b : Begun) (wrote : g.wrote t.stamp ≡ Some b) (long : 0 < t.given → t.length ≡ length b.text) where
   -- the length of the first record

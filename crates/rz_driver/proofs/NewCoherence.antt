@@ -30,13 +30,10 @@ use Rattle.rz_nodes.specs.Formatted.{AreFormatted, IsNodeFormatted, geometry_of}
 use Rattle.rz_driver_nodes.specs.Images.{AreImaged, HasImages, fused_image}
 use Rattle.rz_player.specs.Behind.{behind}
 use Rattle.rz_driver_actors.specs.Hands.{HasTrueHand}
+use Rattle.rz_node_laws.proofs.ImageCalls.{none-held}
 use Rattle.rz_driver.specs.Coherence.{IsCoherent, KnowsLengths}
 use Rattle.rz_driver_actors.specs.Agendas.{IsEmptyAgenda}
 use Rattle.rz_driver_nodes.specs.Servers.{IsServer}
-
--- nothing was played
-none-held : (key : Key) → held_of maps.empty key ≡ []
-none-held key = ap listed (get-empty {X = List Held} key_cmp key)
 
 none-whole : IsWhole maps.empty
 none-whole key is = let none = get-empty {X = List Held} key_cmp key in cc

@@ -37,6 +37,7 @@ use Rattle.rz_core.proofs.Extends.{wrote-more}
 use Rattle.rz_core.proofs.Stamps.{wrote-cases, begun_by-is}
 use Rattle.rz_play.specs.Turns.{found_text, text_said}
 use Rattle.rz_block_laws.specs.InHand.{IsInHand, IsReadInHand, IsWriteBlock}
+use Rattle.rz_block_laws.proofs.Sayings.{room, same-begun, same-saying}
 use Rattle.rz_driver.specs.Coherence.{KnowsLength, KnowsLengths}
 use Rattle.rz_block_laws.specs.Acting.{AreBytes}
 
@@ -52,23 +53,6 @@ short-text v (x ∷ h) legal s b k = elim (wrote-cases x h s b k) [ inl old ↦ 
 
 -- ---- the bytes of a block are those of its text
 
-room : (y : Layout) → block_bytes_of y ≡ 8 * (inverse_of y * cols_of y)
-room layouts.L0 = refl
-room layouts.L1 = refl
-room layouts.L2 = refl
-room layouts.L0B1 = refl
-room layouts.L0B2 = refl
-room layouts.L0B3 = refl
-room layouts.L1B1 = refl
-room layouts.L1B2 = refl
-room layouts.L1B3 = refl
-room layouts.L2B1 = refl
-room layouts.L2B2 = refl
-room layouts.L2B3 = refl
-
-same-begun : (a b : Begun) → Some a ≡ Some b → a ≡ b
-same-begun a b is = cc
-
 module _ (y : Layout) (f : Facts) (key : Key) (stamp size : ℕ) (b : Begun) (known : f.wrote stamp ≡ Some b) (bytes : All (λ x. x < 256) b.text) (long : size ≡ length b.text) (short : length b.text ≤ block_bytes_of y) where
   -- the block that was found
   found : (block : Option Grid) → IsSomeAnd block (IsWriteBlock y f key stamp) → text_found (mark.Found stamp size) block ≡ text_in (f.wrote stamp)
@@ -81,9 +65,6 @@ module _ (y : Layout) (f : Facts) (key : Key) (stamp size : ℕ) (b : Begun) (kn
       ∙ ap text_in (sym known)
 
 -- ---- what is said
-
-same-saying : (a b : Saying) → Say a ≡ Say b → a ≡ b
-same-saying a b is = cc
 
 module _ (y : Layout) (whole : List Event) (block : Option Grid) (pairs : List Pair) where
   abbrev f : Facts

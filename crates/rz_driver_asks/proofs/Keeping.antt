@@ -26,7 +26,7 @@ use Rattle.rz_driver_asks.specs.Parts.{IsNotable}
 use Rattle.rz_driver_asks.proofs.Changes.{entry-changes, joins, notes-joined, takes-joined}
 use Rattle.rz_driver_asks.proofs.Drawn.{base-drawn}
 
-same-call : (a c : Call) → Some a ≡ Some c → a ≡ c
+pub same-call : (a c : Call) → Some a ≡ Some c → a ≡ c
 same-call a c is = cc
 
 true-is-false : true ≡ false → ⊥

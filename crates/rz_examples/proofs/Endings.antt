@@ -50,11 +50,9 @@ use Rattle.rz_operation_model.specs.Ask.{Say, SayDone, ask_of, is_part, got, rea
 use Rattle.rz_operation_model.specs.Steps.{Told, Replied, Locked, Answered, Missed, Noted, begun, told, read_end, in_range, range_answer, after_got, after_gave, said_reading, said_writing, after_drop, drop_at, rebuild_after, in_rebuild}
 use Rattle.rz_operation_model.specs.Turns.{IsStep, IsNodeStep, Through, ReplyLost, RequestLost, IsExportStep, IsLockStep}
 use Rattle.rz_core.specs.Courses.{does as does_operation, IsCourse, Begun, Went, IsSaying}
+use Rattle.rz_safety.proofs.CourseLaws.{some_is}
 
 -- Turns, by what was asked.
-
-some_is : (x y : Event) → Some x ≡ Some y → x ≡ y
-some_is x y is = cc
 
 export-turn : (by : Actor) (c : Call) (P : Told → List Event → Type 0) → ((r : Reply) (x : Event) → export_event by c r ≡ Some x → P (Replied r) (x ∷ []))
     → (t : Told) (xs : List Event) → IsExportStep by c t xs → P t xs

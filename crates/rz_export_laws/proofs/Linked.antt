@@ -10,14 +10,12 @@ use Rattle.rz_export_model.specs.Tree.{Tree, Object, is_at, is_dir, paths_to}
 use Rattle.rz_tree.specs.Trees.{IsTree}
 use Rattle.rz_tree.specs.Added.{most_names}
 use Rattle.rz_tree.proofs.Counts.{count-insert, one_if-same, one_if-other}
+use Rattle.rz_tree.proofs.Links.{zero_plus}
 use Rattle.rz_export_laws.specs.WholeTree.{IsWholeTree, is_plain}
 use Rattle.rz_tree.proofs.Keys.{same_some, not_none, false-true, one-or-two, ties-itself, apart, get-inserted, get-beside}
 use Rattle.rz_tree.proofs.Fronts.{above-append}
 use Rattle.rz_tree.proofs.Rules.{dir-found, dir-is}
 use Rattle.rz_export_model.specs.TreeCalls.{with_name}
-
-zero_plus : (n : ℕ) → 0 + n ≡ n
-zero_plus n = omega arith
 
 module _ (t : Tree) (w : IsWholeTree t) (to : Path) (fid : ℕ) (object : Object) (is : maps.get t.objects fid ≡ Some object) (leaf : is_dir object.kind ≡ false)
     (room : paths_to t.names fid < 65535) (absent : maps.get t.names to ≡ None) (other : is_root to ≡ false) (parent : is_at t (above to) is_dir ≡ true)

@@ -13,6 +13,7 @@ use Rattle.rz_export_model.specs.Tree.{Tree, Object, is_at, is_dir, paths_to}
 use Rattle.rz_tree.specs.Trees.{IsTree}
 use Rattle.rz_tree.specs.Added.{FitsKind, most_names}
 use Rattle.rz_tree.proofs.Counts.{count-insert, one_if-same, one_if-other, no-path}
+use Rattle.rz_tree.proofs.Links.{zero_plus}
 use Rattle.rz_export_laws.specs.WholeTree.{IsWholeTree, is_plain}
 use Rattle.rz_tree.proofs.Keys.{same_some, not_none, false-true, none-or-some, one-or-two, ties-itself, apart, get-inserted, get-beside}
 use Rattle.rz_tree.proofs.Fronts.{above-append}
@@ -25,9 +26,6 @@ use Rattle.rz_export_model.specs.TreeCalls.{with_new}
 one-most : (b : Bool) → 1 ≤ cond b 1 65535
 one-most true = omega arith
 one-most false = omega arith
-
-zero_plus : (n : ℕ) → 0 + n ≡ n
-zero_plus n = omega arith
 
 -- where one more object may be made, there are few
 free-few : (t : Tree) (path : Path) → first_of (can_not_make t path) ≡ None → maps.len t.objects ≤ 65536

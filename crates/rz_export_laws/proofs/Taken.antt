@@ -9,6 +9,7 @@ use Rattle.rz_export_model.specs.Tree.{Tree, Object, is_at, is_dir, paths_to}
 use Rattle.rz_tree.specs.Trees.{IsTree}
 use Rattle.rz_tree.specs.Added.{most_names}
 use Rattle.rz_tree.proofs.Counts.{count-remove, one_if, one_if-same, one_if-other, some-path, two-paths}
+use Rattle.rz_tree.proofs.Links.{zero_plus}
 use Rattle.rz_export_laws.specs.WholeTree.{IsWholeTree}
 use Rattle.rz_tree.proofs.Keys.{not_none, false-true, held, one-or-two, ties-itself, apart, get-removed, get-left}
 use Rattle.rz_tree.proofs.Rules.{dir-found, dir-is}
@@ -18,9 +19,6 @@ use Rattle.std.specs.Prelude.{◌==◌}
 use Rattle.std.specs.Option.{option_map, option_map_or, option_and_then}
 use Rattle.rz_export_model.specs.Tree.{Found, found_at, links_of, names_under}
 use Rattle.rz_export_model.specs.TreeCalls.{without_name}
-
-zero_plus : (n : ℕ) → 0 + n ≡ n
-zero_plus n = omega arith
 
 module _ (t : Tree) (w : IsWholeTree t) (path : Path) (fid : ℕ) (o : Object) (at : maps.get t.names path ≡ Some fid) (is : maps.get t.objects fid ≡ Some o)
     (other : is_root path ≡ false) (last : names_under t.names path ≡ []) where

@@ -175,7 +175,7 @@ module _ (v : Volume) (f : Facts) (n : ℕ) (g : Geometry) (s : NodeState) where
 
 -- ---- a node that holds nothing
 
-none-held : (key : Key) → held_of maps.empty key ≡ []
+pub none-held : (key : Key) → held_of maps.empty key ≡ []
 none-held key = ap listed (get-empty {X = List Held} key_cmp key)
 
 module _ (v : Volume) (f : Facts) (n : ℕ) where

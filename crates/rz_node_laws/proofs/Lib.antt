@@ -2,7 +2,7 @@ mod MeterSteps
 mod MeterCalls
 mod Held
 mod Records
-mod ImageCalls
+pub mod ImageCalls
 mod Words
 pub mod MeterRises
 pub mod NodeWords

@@ -231,7 +231,7 @@ after-any layout s P all same Missed = all true hears.Missed
 after-any layout s P all same (Noted text) = all true hears.Noted
 after-any layout s P all same (Locked granted r) = same
 
-some_is : (x y : Event) → Some x ≡ Some y → x ≡ y
+pub some_is : (x y : Event) → Some x ≡ Some y → x ≡ y
 some_is x y is = cc
 
 module _ (layout : Layout) (by : Actor) (number n : ℕ) (o : List Event) where

@@ -10,7 +10,6 @@ use Rattle.std.proofs.lemmas.List.Sums.{list_all-from_AllPass}
 use Rattle.std.proofs.lemmas.List.Concat.{flat_map-cons}
 use Rattle.std.proofs.lemmas.List.Splits.{slice_split_none, slice_split_at}
 use Rattle.std.proofs.lemmas.Str.{IsUtf8-append, IsUtf8-nil, IsUtf8-from_ascii}
-use Rattle.std.proofs.lemmas.Str.Parse.{IsNumeralModel, numerals_by_value, tells_all_ascii_digits}
 use Rattle.std.proofs.lemmas.Fmt.{digits_decimal, digits_value-decimal, decimal_nonempty, IsAscii-decimal}
 use Rattle.std.specs.Str.{IsUtf8, all_ascii_digits}
 use Rattle.std.specs.Str.Parse.{digits_value}
@@ -32,6 +31,7 @@ use Rattle.rz_events.specs.declared.operations.Datum.{Datum}
 use Rattle.rz_events.specs.declared.operations.Datum.TheVariants.{Bytes, Made}
 use Rattle.rz_events.specs.declared.operations.Operation.{Operation}
 use Rattle.rz_events.specs.declared.operations.Operation.TheVariants.{Tree, Put, Get, Write, Read, Rebuild, Update, View}
+use Rattle.rz_script_words.proofs.Numerals.{own}
 use Rattle.rz_script.specs.declared.line.Line.{Line}
 use Rattle.rz_script.specs.declared.line.Line.TheVariants.{Op, Turn, Rounds, Rest, Stop, Start, Lose, Break, Miss}
 use Rattle.rz_script_words.specs.declared.form.Form.{Form}
@@ -89,9 +89,6 @@ fine x = Ok x
 
 passes_test : {A : Type 0} (b : Bool) (x : A) (c : ScriptCause) → b ≡ true → cond b (fine x) (Err c) ≡ Ok x
 passes_test b x c h = ap (λ (t : Bool). cond t (fine x) (Err c)) h
-
-own : IsNumeralModel (λ ds. all_ascii_digits ds ≡ true) (digits_value 10)
-own = numerals_by_value _ tells_all_ascii_digits
 
 number_again : (n : ℕ) → n < 2 ^ 64 → number (decimal n) ≡ Ok n
 unfolding number

@@ -1,4 +1,3 @@
-pub mod Alone
 pub mod Pairs
 pub mod Readiness
 pub mod Returning

@@ -12,7 +12,7 @@ use Rattle.rz_chronicle.specs.Kinds.{keeps_legal, volume_in}
 use Rattle.rz_chronicle.specs.Rules.{WordTokenView}
 use Rattle.rz_shared_locked.specs.Counts.{AreCountedSince}
 use Rattle.rz_shared_locked.specs.LockedNodes.{AreImagesAfter}
-use Rattle.rz_shared.proofs.Alone.{alone, honest-keeps}
+use Rattle.rz_shared_locked.proofs.Behind.{alone, honest-keeps}
 use Rattle.rz_shared.specs.Returned.{IsReturned, IsReturnedAfter}
 
 -- a disk out of its fuse, and the token of its node's word

@@ -1,5 +1,5 @@
 mod Logs
-mod Behind
+pub mod Behind
 mod Lasting
 mod LockedExportLaws
 mod Events

@@ -24,7 +24,8 @@ use Rattle.rz_shared_locked.specs.Adding.{MayBeNext}
 use Rattle.rz_shared_locked.specs.LockedExports.{Replied, RepliedAfter, event_given}
 use Rattle.rz_shared_locked.specs.Laws.{IsLockedExportKept, IsLockedExportStep, IsReplyLaw}
 use Rattle.rz_shared_locked.proofs.Behind.{alone, honest-keeps}
-use Rattle.rz_shared_locked.proofs.Logs.{later-self, stays-fewer}
+use Rattle.rz_shared_locked.proofs.Logs.{stays-fewer}
+use Rattle.rz_chronicle.proofs.Histories.{later-self}
 use Rattle.rz_shared_locked.proofs.Replies.{event-of, no-memory, reply-event, volume-after}
 
 -- memory was wanting, and nothing changed

@@ -5,9 +5,6 @@ use Rattle.rz_chronicle.specs.Keys.{IsLater}
 use Rattle.rz_chronicle.specs.Holds.{Stays, Commits}
 use Rattle.rz_shared_locked.specs.Adding.{AddsEvent}
 
-pub later-self : (h : List Event) → IsLater h h
-later-self h = ([], refl)
-
 pub later-trans : (a b c : List Event) → IsLater a b → IsLater b c → IsLater a c
 later-trans a b c p q = (q.0 ++ p.0, q.1 ∙ ap (λ (l : List Event). q.0 ++ l) p.1 ∙ sym (append_assoc q.0 p.0 a))
 

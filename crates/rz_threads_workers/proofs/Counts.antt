@@ -1,11 +1,12 @@
 -- Words that are counted one after another, while the tokens of all of them are held.
-use Rattle.std.proofs.Common.{◌≡◌, ◌≤◌, ◌<◌, ◌+◌, ◌++◌, ℕ, zero, suc, Bool, true, false, cond, List, [], ◌∷◌, Option, Some, None, length, append-nil, append_assoc, sym, refl, ap, ap₂, ◌∙◌, subst, inl, inr, arith}
+use Rattle.std.proofs.Common.{◌≡◌, ◌≤◌, ◌<◌, ◌+◌, ◌++◌, ℕ, zero, suc, Bool, true, false, cond, List, [], ◌∷◌, Option, Some, None, length, append-nil, append_assoc, sym, refl, ap, ap₂, ◌∙◌, subst, arith}
 use Rattle.std.proofs.lemmas.List.Sums.{sum_by-cons}
 use Rattle.rz_events.specs.declared.events.Word.{Word}
 use Rattle.rz_events.specs.declared.events.Event.{Event}
 use Rattle.rz_chronicle.specs.Keys.{IsLater, IsOneOf, count_at, events_at, moves_of, owner, touches, word_key}
 use Rattle.rz_chronicle.specs.Holds.{Stays}
 use Rattle.rz_chronicle.specs.Rules.{PassView}
+use Rattle.rz_chronicle.proofs.Settling.{one-of-left}
 use Rattle.rz_threads_workers.specs.Gathered.{PassGoesOn}
 use Rattle.rz_threads_workers.specs.Moves.{HoldsAll}
 
@@ -19,10 +20,6 @@ abbrev pub moves_in : List ℕ → List Event → ℕ
 moves_in sids h = moves_before 338 sids h
 
 -- A pass that goes on, and goes on again.
-
-one-of-left : (k : ℕ) (xs ys : List ℕ) → IsOneOf k xs → IsOneOf k (xs ++ ys)
-one-of-left k [] ys h = absurd h
-one-of-left k (x ∷ xs) ys h = elim h [ inl e ↦ inl e | inr more ↦ inr (one-of-left k xs ys more) ]
 
 goes-nowhere : (p : PassView) → PassGoesOn p p
 goes-nowhere p = record { actor = refl; more = []; keys = sym (append-nil p.keys); stays = λ k is. refl; later = ([], refl) }

@@ -1,25 +1,14 @@
 -- Passes that are gathered one after another.
-use Rattle.std.proofs.Common.{◌≡◌, ◌++◌, [], ◌∷◌, ℕ, List, sym, refl, ap, ◌∙◌, subst, inl, inr, append_assoc, append-nil}
+use Rattle.std.proofs.Common.{◌≡◌, ◌++◌, [], ◌∷◌, ℕ, List, sym, refl, ap, ◌∙◌, subst, append_assoc, append-nil}
 use Rattle.std.specs.List.{AllByRecursion}
-use Rattle.rz_events.specs.declared.events.Event.{Event}
 use Rattle.rz_events.specs.declared.events.Word.TheVariants.{Own}
-use Rattle.rz_chronicle.specs.Keys.{actor_key, word_key, IsOneOf, IsLater}
+use Rattle.rz_chronicle.specs.Keys.{actor_key, word_key, IsOneOf}
 use Rattle.rz_chronicle.specs.Holds.{Stays}
 use Rattle.rz_chronicle.specs.Kinds.{IsFit}
 use Rattle.rz_chronicle.specs.Rules.{PassView}
 use Rattle.rz_chronicle.proofs.Same.{actor-same}
+use Rattle.rz_chronicle.proofs.Settling.{later-still, one-of-left, one-of-right}
 use Rattle.rz_threads_workers.specs.Gathered.{PassGoesOn, HoldsPass}
-
-one-of-left : (k : ℕ) (xs ys : List ℕ) → IsOneOf k xs → IsOneOf k (xs ++ ys)
-one-of-left k [] ys h = absurd h
-one-of-left k (x ∷ xs) ys h = elim h [ inl e ↦ inl e | inr more ↦ inr (one-of-left k xs ys more) ]
-
-one-of-right : (k : ℕ) (xs ys : List ℕ) → IsOneOf k ys → IsOneOf k (xs ++ ys)
-one-of-right k [] ys h = h
-one-of-right k (x ∷ xs) ys h = inr (one-of-right k xs ys h)
-
-later-still : (a b c : List Event) → IsLater a b → IsLater b c → IsLater a c
-later-still a b c p q = (q.0 ++ p.0, q.1 ∙ (ap (λ (l : List Event). q.0 ++ l) p.1 ∙ sym (append_assoc q.0 p.0 a)))
 
 -- what a pass holds of another's actor it still holds when it has gone on
 pub held-still : (other old new : PassView) → PassGoesOn old new → HoldsPass old other → HoldsPass new other

@@ -1,19 +1,17 @@
 -- How many paths lead to an object, after a path is added or taken away.
-use Rattle.std.proofs.Common.{◌≡◌, ℕ, ◌+◌, ◌≤◌, Bool, true, false, cond, ◌&&◌, T, List, [], ◌∷◌, map, Some, None, Ordering, sym, ap, ◌∙◌, refl, arith, eqb-true, eq-eqb, inl, inr, zero-add}
+use Rattle.std.proofs.Common.{◌≡◌, ℕ, ◌+◌, ◌≤◌, Bool, true, false, cond, T, [], ◌∷◌, map, Some, None, Ordering, sym, ap, ◌∙◌, refl, arith, eqb-true, eq-eqb, inl, inr, zero-add}
 use Rattle.std.specs.Prelude.{◌==◌, count_by}
 use Rattle.std.proofs.lemmas.List.Sums.{sum_by-cons}
 use Rattle.std.specs.declared.cmp.Ordering.TheVariants.{Less, Equal, Greater}
-use Rattle.std.specs.Ordering.{is_eq, is_lt, eq_by_cmp}
+use Rattle.std.specs.Ordering.{is_eq, eq_by_cmp}
 use Rattle.std.specs.FinMap as maps
 use Rattle.std.specs.FinMap.{FinMap, same_map, entries-insert, get-entries, entries_sorted}
 use Rattle.std.specs.FinMap.Entries.{find, put, is_sorted, below_all, by_order}
 use Rattle.rz_export_model.proofs.Tests.{left, right, is_less}
 use Rattle.rz_export_model.specs.Paths.{Path, path_cmp, paths_total, exact_paths}
 use Rattle.rz_export_model.specs.Tree.{paths_to}
+use Rattle.rz_names.proofs.Names.{Entries}
 use Rattle.rz_tree.proofs.Keys.{not_none, one-or-two, ties-itself, get-inserted, get-beside, get-removed, get-left}
-
-abbrev pub Entries : Type 0
-Entries = List (Path × ℕ)
 
 -- how many of these entries lead to an object
 abbrev pub count_to : Entries → ℕ → ℕ

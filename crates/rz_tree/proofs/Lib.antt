@@ -11,7 +11,7 @@ mod Listings
 pub mod Names
 pub mod Adds
 mod Takes
-mod Links
+pub mod Links
 pub mod Renamings
 pub mod Calls
 mod Replacing

@@ -18,7 +18,7 @@ use Rattle.rz_tree.proofs.Fronts.{above-append}
 use Rattle.rz_tree.proofs.Rules.{dir-found, dir-is, from-map, get-changed}
 use Rattle.rz_tree.proofs.Takes.{insert-same}
 
-zero_plus : (n : ℕ) → 0 + n ≡ n
+pub zero_plus : (n : ℕ) → 0 + n ≡ n
 zero_plus n = omega arith
 
 module _ (t : Tree) (rules : IsTree t) (to : Path) (fid : ℕ) (object : Object) (is : maps.get t.objects fid ≡ Some object) (free : is_dir object.kind ≡ true → paths_to t.names fid ≡ 0)

@@ -1,5 +1,5 @@
 -- The names right under a path rise, and are found one after another.
-use Rattle.std.proofs.Common.{◌≡◌, ℕ, zero, suc, ◌+◌, ◌-◌, ◌<◌, Bool, true, false, cond, ◌&&◌, T, List, [], ◌∷◌, ◌++◌, length, take, map, get_or, Option, Some, None, Ordering, sym, ap, ◌∙◌, refl, arith, slice_get}
+use Rattle.std.proofs.Common.{◌≡◌, ℕ, zero, suc, ◌+◌, ◌-◌, ◌<◌, Bool, true, false, cond, T, List, [], ◌∷◌, ◌++◌, length, take, map, get_or, Option, Some, None, Ordering, sym, ap, ◌∙◌, refl, arith, slice_get}
 use Rattle.std.specs.declared.cmp.Ordering.TheVariants.{Less, Equal, Greater}
 use Rattle.std.specs.List as lists
 use Rattle.std.specs.List.{filter_map, cons_option, AllByRecursion}
@@ -14,7 +14,7 @@ use Rattle.rz_export_model.specs.Paths.{Name, Path, name_cmp, path_cmp, names_to
 use Rattle.rz_export_model.specs.Tree.{names_under}
 use Rattle.rz_names.specs.Names.{is_after, next_name}
 use Rattle.rz_tree.proofs.Keys.{same_some, not_none}
-use Rattle.rz_tree.proofs.Counts.{Entries}
+use Rattle.rz_names.proofs.Names.{Entries}
 use Rattle.rz_names.proofs.PathOrder.{append-cmp}
 
 -- each name is below those after it

@@ -9,7 +9,8 @@ use Rattle.rz_export_model.specs.Paths.{Path, path_cmp, paths_total, exact_paths
 use Rattle.rz_export_model.specs.Tree.{moved, paths_to}
 use Rattle.rz_names.proofs.PathOrder.{and_parts, begins-front}
 use Rattle.rz_names.proofs.Moves.{not_true, none_begin, moved_each, find-each_in, find-each_from, find-each_out}
-use Rattle.rz_tree.proofs.Counts.{Entries, count_to, one_if, cons-count, count-insert, no-path, find-below}
+use Rattle.rz_tree.proofs.Counts.{count_to, one_if, cons-count, count-insert, no-path, find-below}
+use Rattle.rz_names.proofs.Names.{Entries}
 use Rattle.rz_tree.proofs.Keys.{ties-itself, not_none}
 
 both : (a b : Bool) → a ≡ true → b ≡ true → (a && b) ≡ true

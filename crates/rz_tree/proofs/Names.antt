@@ -15,7 +15,7 @@ use Rattle.rz_export_model.specs.Tree.{Tree, names_under, is_at, is_dir}
 use Rattle.rz_export_model.specs.Refusals.{not_empty}
 use Rattle.rz_tree.specs.Trees.{IsTree}
 use Rattle.rz_tree.proofs.Keys.{not_none, false-true, none-or-some, one-or-two, ties-itself}
-use Rattle.rz_tree.proofs.Counts.{Entries}
+use Rattle.rz_names.proofs.Names.{Entries}
 use Rattle.rz_tree.proofs.Fronts.{append-nothing}
 use Rattle.rz_names.specs.Names.{next_name}
 use Rattle.rz_tree.proofs.Listings.{right-is, next-first}

@@ -3,7 +3,8 @@ use Rattle.rz_events.specs.declared.events.Event.{Event}
 use Rattle.rz_chronicle.specs.Keys.{word_key}
 use Rattle.rz_chronicle.specs.Rules.{PassView}
 use Rattle.rz_shared_locked.specs.Adding.{AddsEvent, MayBeNext}
-use Rattle.rz_shared_locked.proofs.Logs.{later-self, commits-adds}
+use Rattle.rz_shared_locked.proofs.Logs.{commits-adds}
+use Rattle.rz_chronicle.proofs.Histories.{later-self}
 use Rattle.rz_shared_locked.proofs.adding.add.Goals as goal
 use Rattle.rz_shared_locked.proofs.adding.add.Goals.{in-Some, in-None}
 

@@ -4,7 +4,7 @@ use Rattle.rz_events.specs.Events.{by_of}
 use Rattle.rz_core.specs.History.{of_actor}
 use Rattle.rz_core.specs.Legal.{IsAllowedIn}
 use Rattle.rz_chronicle.specs.Kinds.{volume_in}
-use Rattle.rz_shared.proofs.Alone.{alone, keeps-honest}
+use Rattle.rz_shared_locked.proofs.Behind.{alone, keeps-honest}
 use Rattle.rz_shared.proofs.cluster.Cluster.finish.Goals as goal
 
 pub finish_after-requires-clause-legal : goal.finish_after-requires-clause-legal

@@ -6,7 +6,7 @@ use Rattle.rz_events.specs.Volume.{Volume, IsNode, nodes_of}
 use Rattle.rz_events.specs.declared.files.NodeSpec.{NodeSpec}
 use Rattle.rz_chronicle.specs.Keys.{sids_of}
 use Rattle.rz_chronicle.specs.Kinds.{volume_in}
-use Rattle.rz_shared.proofs.Alone.{keeps-honest}
+use Rattle.rz_shared_locked.proofs.Behind.{keeps-honest}
 use Rattle.rz_shared.proofs.NewLockedNodes.{untouched, all-ready, made-length}
 use Rattle.rz_shared.proofs.cluster.Cluster.new.Goals as goal
 
