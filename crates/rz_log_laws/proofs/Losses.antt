@@ -25,7 +25,7 @@ use Rattle.rz_core.proofs.ExportCalls.{enrolment}
 use Rattle.rz_log_laws.specs.Losses.{last_loss, AreLossesEnrolled, AreLossesKnown}
 
 -- no loss that is enrolled is above the last one
-enrolled-most : (v : Volume) (h : List Event) → IsLegalInRuns v h → (n : ℕ) (by : Actor) (loss fence : ℕ) → Has (export h) (e.Enroll by n loss fence) → loss ≤ last_loss (export h) n
+pub enrolled-most : (v : Volume) (h : List Event) → IsLegalInRuns v h → (n : ℕ) (by : Actor) (loss fence : ℕ) → Has (export h) (e.Enroll by n loss fence) → loss ≤ last_loss (export h) n
 enrolled-most v [] legal n by loss fence has = absurd has
 enrolled-most v (e.Enroll a m l f ∷ h) legal n by loss fence has = go (enrolled-most v h legal.0 n by loss fence) (n == m) refl has
   where
@@ -51,10 +51,10 @@ record Counts (w : List Event) (enrolled : ℕ) : Type 0 where
   mended : ¬ (phase w ≡ Lost) → losses w ≡ enrolled
 
 -- a node that is up or down is not lost
-not_lost : (p q : Phase) → p ≡ q → ¬ (q ≡ Lost) → ¬ (p ≡ Lost)
+pub not_lost : (p q : Phase) → p ≡ q → ¬ (q ≡ Lost) → ¬ (p ≡ Lost)
 not_lost p q is never lost = never (sym is ∙ lost)
 
-broke-up : (v : Volume) (h : List Event) (by : Actor) (m : ℕ) (c : Option Change) → BrokeRow v (facts h) (node m h) (of_actor by h) by m c → phase (node m h) ≡ Up
+pub broke-up : (v : Volume) (h : List Event) (by : Actor) (m : ℕ) (c : Option Change) → BrokeRow v (facts h) (node m h) (of_actor by h) by m c → phase (node m h) ≡ Up
 broke-up v h by m None r = r
 broke-up v h by m (Some c) r = did-up v (facts h) (node m h) (of_actor by h) by m c r
 
@@ -91,10 +91,10 @@ probed-most v (x ∷ h) legal n by loss (inl is) = told x legal is
 probed-most v (x ∷ h) legal n by loss (inr has) = let i = probed-most v h legal.0 n by loss has in let m = losses-more v x h legal n in omega (arith, i, m)
 
 -- an actor's own event of the export's word is an event of that word
-has-export : (by : Actor) (h : List Event) (x : Event) → Has (of_actor by h) x → word_of x ≡ Export → Has (export h) x
+pub has-export : (by : Actor) (h : List Event) (x : Event) → Has (of_actor by h) x → word_of x ≡ Export → Has (export h) x
 has-export by h x has is = has-filter (λ y. same_word Export (word_of y)) h x (ap (same_word Export) is) (filter-has (λ y. same_actor by (by_of y)) h x has)
 
-node-is : (m n : ℕ) → Node m ≡ Node n → m ≡ n
+pub node-is : (m n : ℕ) → Node m ≡ Node n → m ≡ n
 node-is m n is = cc
 
 -- the loss that is enrolled last is at most what all enrolments are

@@ -6,25 +6,22 @@ use Rattle.std.specs.FinMap as maps
 use Rattle.std.proofs.lemmas.Bool.{eqb-true, eq-eqb, and_parts, and_from}
 use Rattle.rz_events.specs.Volume.{Volume}
 use Rattle.rz_events.specs.declared.keys.Actor.{Actor}
-use Rattle.rz_events.specs.declared.records.Change.{Change}
-use Rattle.rz_events.specs.declared.nodes.Phase.{Phase}
 use Rattle.rz_events.specs.declared.nodes.Phase.TheVariants.{Up, Down, Lost}
 use Rattle.rz_events.specs.declared.events.Word.TheVariants.{Export, Node}
 use Rattle.rz_events.specs.declared.events.Event.{Event}
 use Rattle.rz_events.specs.declared.events.Event.TheVariants as e
 use Rattle.rz_events.specs.Events.{by_of, word_of, same_actor, same_word}
 use Rattle.rz_export_model.specs.Export.{Enrolled}
-use Rattle.rz_core.specs.History.{Facts, facts, of_actor, Has}
+use Rattle.rz_core.specs.History.{Facts, facts, Has}
 use Rattle.rz_core.specs.NodeWord.{phase, losses, last_fence}
-use Rattle.rz_core.specs.NodeRows.{BrokeRow}
 use Rattle.rz_core.specs.ExportWord.{enrolled, last_drawn, or_new}
 use Rattle.rz_core.specs.Legal.{IsLegalInRuns}
 use Rattle.rz_core.proofs.Stamps.{export, last_drawn-more}
-use Rattle.rz_core.proofs.NodeLaws.{node, at-node, at-own, IsRows, rows, did-up, filter-has, has-filter}
-use Rattle.rz_core.proofs.NodeSteps.{the_some}
+use Rattle.rz_core.proofs.NodeLaws.{node, at-node, at-own, IsRows, rows, filter-has}
 use Rattle.rz_core.proofs.EnrollLaws.{AreEnrolled, export-rows, enrolled-has, new_cases, none_before, fence_drawn}
 use Rattle.rz_core.proofs.ExportCalls.{enrolment}
-use Rattle.rz_log_laws.specs.Losses.{last_loss, loss_in, AreLossesEnrolled, AreLossesKnown}
+use Rattle.rz_log_laws.specs.Losses.{last_loss, AreLossesEnrolled, AreLossesKnown}
+use Rattle.rz_log_laws.proofs.Losses.{enrolled-most, not_lost, broke-up, has-export, node-is}
 use Rattle.rz_restart_laws.specs.Fences.{last_given, AreFencesGiven, AreFencesKnown, AreStaleTold}
 
 -- ---- the fences of a word
@@ -52,19 +49,6 @@ module _ (v : Volume) (f : Facts) where
       go rest false off (inr has) = rest has
   one-fence (x ∷ w) r by n l g (inl is) = cc
   one-fence (x ∷ w) r by n l g (inr has) = one-fence w r.0 by n l g has
-
-  -- no loss that is enrolled is above the last one
-  most : (w : List Event) → IsRows v f w → (by : Actor) (n l g : ℕ) → Has w (e.Enroll by n l g) → l ≤ last_loss w n
-  most [] r by n l g has = absurd has
-  most (e.Enroll a m k j ∷ w) r by n l g has = go (most w r.0 by n l g) (n == m) refl has
-    where
-      go : (Has w (e.Enroll by n l g) → l ≤ last_loss w n) → (t : Bool) → (n == m) ≡ t → Has (e.Enroll a m k j ∷ w) (e.Enroll by n l g) → l ≤ cond t k (last_loss w n)
-      go rest true on (inl is) = let same : k ≡ l = cc in omega (arith, same)
-      go rest true on (inr has) = r.1.2.top by l g (subst (λ z. Has w (e.Enroll by z l g)) (eqb-true n m on) has)
-      go rest false off (inl is) = let at : m ≡ n = cc in let on = eq-eqb n m (sym at) in absurd (cc)
-      go rest false off (inr has) = rest has
-  most (x ∷ w) r by n l g (inl is) = cc
-  most (x ∷ w) r by n l g (inr has) = most w r.0 by n l g has
 
 -- the last loss has a fence, where one was enrolled
 last-fenced : (w : List Event) (n : ℕ) → (last_loss w n ≡ 0) ⊎ ((g : ℕ) × (enrolled w n (last_loss w n) ≡ Some g))
@@ -106,16 +90,6 @@ probed-some v (x ∷ h) legal n by loss (inr has) = probed-some v h legal.0 n by
 abbrev IsGiven : List Event → ℕ → List Event → Type 0
 IsGiven e n w = ¬ (phase w ≡ Lost) → last_fence w ≡ last_given e n
 
-node-is : (m n : ℕ) → Node m ≡ Node n → m ≡ n
-node-is m n is = cc
-
-not_lost : (p q : Phase) → p ≡ q → ¬ (q ≡ Lost) → ¬ (p ≡ Lost)
-not_lost p q is never lost = never (sym is ∙ lost)
-
-broke-up : (v : Volume) (h : List Event) (by : Actor) (m : ℕ) (c : Option Change) → BrokeRow v (facts h) (node m h) (of_actor by h) by m c → phase (node m h) ≡ Up
-broke-up v h by m None r = r
-broke-up v h by m (Some c) r = did-up v (facts h) (node m h) (of_actor by h) by m c r
-
 -- an event of a node that was not lost, which gives it no fence
 goes-on : (h : List Event) (x : Event) (n m : ℕ) → word_of x ≡ Node m → last_fence (x ∷ node n h) ≡ last_fence (node n h) → ¬ (phase (node m h) ≡ Lost)
     → IsGiven (export h) n (node n h) → IsGiven (export h) n (node n (x ∷ h))
@@ -123,9 +97,6 @@ goes-on h x n m of same up rest =
     at-node x h n (IsGiven (export h) n)
     (λ is alive. same ∙ rest (subst (λ z. ¬ (phase (node z h) ≡ Lost)) (node-is m n (sym of ∙ is)) up))
     rest
-
-has-export : (by : Actor) (h : List Event) (x : Event) → Has (of_actor by h) x → word_of x ≡ Export → Has (export h) x
-has-export by h x has is = has-filter (λ y. same_word Export (word_of y)) h x (ap (same_word Export) is) (filter-has (λ y. same_actor by (by_of y)) h x has)
 
 module _ (v : Volume) (law : AreLossesEnrolled v) where
   -- a replacement gives the fence of the node's last loss
@@ -219,7 +190,7 @@ given-drawn v h legal n = go (enrolled (export h) n (last_loss (export h) n)) re
 -- the fence of a loss that is new since a log was drawn after it
 drawn-since : (v : Volume) (h more : List Event) → IsLegalInRuns v (more ++ h) → (by : Actor) (n l g : ℕ) → last_loss (export h) n < l
     → Has (export (more ++ h)) (e.Enroll by n l g) → last_drawn (export h) < g
-drawn-since v h [] legal by n l g less has = let low = most v (facts h) (export h) (export-rows v h legal) by n l g has in absurd (omega (arith, less, low))
+drawn-since v h [] legal by n l g less has = let low = enrolled-most v h legal n by l g has in absurd (omega (arith, less, low))
 drawn-since v h (e.Enroll a m k j ∷ more) legal by n l g less (inl is) =
     let at : m ≡ n = cc in
     let loss : k ≡ l = cc in
