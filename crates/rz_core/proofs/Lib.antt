@@ -9,6 +9,7 @@ pub mod NodeSays
 pub mod NodeTies
 pub mod NodeSteps
 pub mod NodeRest
+pub mod NodeStates
 pub mod ExportSteps
 pub mod EnrollLaws
 pub mod NameTies

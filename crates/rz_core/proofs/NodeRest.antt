@@ -182,7 +182,7 @@ pending_there f w s t some = go (undecided w) refl t.undecided_is
     go None q is = let never = subst IsSome is some in cc
     go (Some c) q is = (c, q)
 
-started : (f : Facts) (w : List Event) (s : NodeState) (n : ℕ) → IsNode f w s
+pub started : (f : Facts) (w : List Event) (s : NodeState) (n : ℕ) → IsNode f w s
     → IsNode f (e.Start n true ∷ w) (record s { phase = Up; held = taken s.undecided s.held; undecided = None })
 started f w s n t = record {
   phase_is = refl;

@@ -57,6 +57,10 @@ pub record IsNode (f : Facts) (w : List Event) (s : NodeState) : Type 0 where
   pub whole : IsWhole s.held
   pub undecided_is : s.undecided ≡ option_map (pending_in f) (undecided w)
 
+-- Each word gives a state.
+abbrev pub HasState : Type 0
+HasState = (f : Facts) (w : List Event) → (s : NodeState) × IsNode f w s
+
 -- the head is that of the record of its write
 abbrev pub IsOfWrite : Facts → Head → Type 0
 IsOfWrite f head = (head.length ≡ length_in (f.wrote head.stamp)) × (head.base ≡ base_begun f head.stamp)

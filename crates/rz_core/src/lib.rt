@@ -25,7 +25,7 @@ ghost use Rattle.rz_events.specs.declared.export.Call.TheVariants as call;
 ghost use Rattle.rz_events.specs.declared.events.Event.{Event as AnEvent};
 ghost use Rattle.rz_core.specs.Legal.{IsLocal, IsLocalInRuns};
 ghost use Rattle.rz_core.specs.Longer.{IsNextRun, IsPermanent, IsPrefixLegal, IsPrefixLegalInRuns, IsOneRun};
-ghost use Rattle.rz_core.specs.Tied.{IsExportLaw, IsExportLawOf, IsNodeLaw, IsNodeLawOf};
+ghost use Rattle.rz_core.specs.Tied.{HasState, IsExportLaw, IsExportLawOf, IsNodeLaw, IsNodeLawOf};
 
 /// What is allowed stays allowed, whatever others do: a later history of the same facts allows an
 /// event that an earlier one allowed, where what lies between is neither of the event's word nor by
@@ -62,6 +62,11 @@ pub fn next_run()
 /// A permanent fact that stands in a log stands unchanged in every longer one.
 pub fn permanent()
     ensures { (h more : List AnEvent) → IsPermanent h more }
+{}
+
+/// Each word of a node gives a state of the node, so one whose disk is not at hand has one too.
+pub fn states()
+    ensures { HasState }
 {}
 
 /// A keep by a node after a legal log, by the writer of its record and at the record's place: its event

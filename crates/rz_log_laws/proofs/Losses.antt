@@ -25,7 +25,7 @@ use Rattle.rz_core.proofs.ExportCalls.{enrolment}
 use Rattle.rz_log_laws.specs.Losses.{last_loss, AreLossesEnrolled, AreLossesKnown}
 
 -- no loss that is enrolled is above the last one
-enrolled-most : (v : Volume) (h : List Event) → IsLegalInRuns v h → (n : ℕ) (by : Actor) (loss fence : ℕ) → Has (export h) (e.Enroll by n loss fence) → loss ≤ last_loss (export h) n
+pub enrolled-most : (v : Volume) (h : List Event) → IsLegalInRuns v h → (n : ℕ) (by : Actor) (loss fence : ℕ) → Has (export h) (e.Enroll by n loss fence) → loss ≤ last_loss (export h) n
 enrolled-most v [] legal n by loss fence has = absurd has
 enrolled-most v (e.Enroll a m l f ∷ h) legal n by loss fence has = go (enrolled-most v h legal.0 n by loss fence) (n == m) refl has
   where

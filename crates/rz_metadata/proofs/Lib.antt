@@ -1,3 +1,3 @@
 mod KeptAgain
-mod PartLosses
+mod PartEnrolments
 mod MetadataReplies

@@ -1,23 +1,37 @@
 -- A journal that was formatted, one for whose call memory was wanting, and what no call changes.
-use Rattle.std.proofs.Common.{◌≡◌, ◌⊎◌, ⊎_elim, ℕ, ◌≤◌, IsSome, Bool, true, false, cond, IsTrue, List, [], ◌∷◌, ◌++◌, Option, Some, None, Result, Ok, Err, OnOk, OnErr, refl, sym, ◌∙◌, ap, subst, arith}
-use Rattle.std.specs.Prelude.{◌&&◌, is_some}
+use Rattle.std.proofs.Common.{◌≡◌, ◌==◌, ◌⊎◌, inl, inr, ⊎_elim, ℕ, ◌+◌, ◌≤◌, IsSome, Bool, true, false, cond, IsTrue, List, [], ◌∷◌, ◌++◌, Option, Some, None, Result, Ok, Err, OnOk, OnErr, refl, sym, ◌∙◌, ap, subst, arith}
+use Rattle.std.specs.Prelude.{◌&&◌, is_some, nat_lt, unwrap_or}
+use Rattle.std.specs.Option.{option_map, option_map_or, option_and_then}
+use Rattle.std.specs.FinMap as maps
 use Rattle.rz_disk.specs.Images.{Only}
 use Rattle.rz_disk.specs.Meter.{Lasts, Meter, Rises, faults}
 use Rattle.rz_events.specs.Volume.{Volume}
+use Rattle.rz_events.specs.Masks.{has_bit}
+use Rattle.rz_events.specs.declared.keys.Key.{Key}
+use Rattle.rz_events.specs.declared.files.FileInfo.{FileInfo}
+use Rattle.rz_events.specs.declared.ends.Denial.{Denial}
+use Rattle.rz_events.specs.declared.ends.Denial.TheVariants as denial
 use Rattle.rz_events.specs.declared.export.Call.{Call}
+use Rattle.rz_events.specs.declared.export.Call.TheVariants as call
 use Rattle.rz_events.specs.declared.export.Reply.{Reply}
 use Rattle.rz_events.specs.declared.export.Reply.TheVariants.{Tree, Begun, Accepted, Enrolled, Looked, Fence, Listed, Denied, NoMemory, Revoked}
-use Rattle.rz_export_model.specs.Export.{Export, new_export, export_reply, export_after}
+use Rattle.rz_export_model.specs.Firsts.{first_of, given_if}
+use Rattle.rz_export_model.specs.Tree.{file_of}
+use Rattle.rz_export_model.specs.Export.{Export, Enrolled as AnEnrolled, new_export, export_reply, export_after, no_begin, no_look, new_fence, spent, enroll_reply, barred, fence_of, no_publish, unknown_file, latest_of, published_of, published_stamp}
 use Rattle.rz_export.specs.Calls.{IsAnswered, MayWant}
 use Rattle.rz_journal.specs.JournalText.{IsTextOf}
 use Rattle.rz_journal.specs.Kept.{IsExportAfter, AllStandFor}
-use Rattle.rz_journal.specs.Said.{entry_of}
+use Rattle.rz_journal.specs.Said.{accepts, entry_of}
 use Rattle.rz_journal.specs.Seen.{HasEntryRoom, IsFull, IsJournalAnswer, IsJournalReply, JournalView, calls_after}
 use Rattle.rz_journal.specs.declared.journal.JournalReply.TheVariants as answer
+use Rattle.rz_journal.proofs.Keepings.{answered_not}
 use Rattle.rz_journal.proofs.Refused.{volume_same}
+use Rattle.rz_metadata.specs.declared.journaled.Journaled.{Journaled as Behind}
 use Rattle.rz_metadata.specs.declared.journaled.JournalRefusal.{JournalRefusal}
 use Rattle.rz_metadata.specs.declared.journaled.JournalRefusal.TheVariants as refusal
-use Rattle.rz_metadata.specs.Stands.{CountsOn, IsJournalKept, IsCallLeft, IsLeftBy, wants_memory}
+use Rattle.rz_metadata.specs.declared.metadata.Metadata.TheVariants.{InMemory, Journaled}
+use Rattle.rz_metadata.specs.Journals.{IsAsBefore, MayLackBehind}
+use Rattle.rz_metadata.specs.Stands.{CountsOn, IsJournalKept, IsCallLeft, IsLeftBy, refusal_of, wants_memory}
 
 -- a journal that was formatted kept no calls
 pub made-anew : {D : Type 0} (tells : Bool) (meter : D → Meter) (text : D → List ℕ) (image : D → List ℕ → Type 0) (v : Volume) (j : JournalView D) → j.export ≡ new_export v 0 → j.closed ≡ false
@@ -129,3 +143,127 @@ left-full tells meter image first old new c calls was need have answered kept = 
 pub volume-kept : {E : Type 0} (old new : Export) (c : Call) (result : Result Reply E) → OnOk result (new ≡ export_after old c) → OnErr result (new ≡ old) → new.volume ≡ old.volume
 volume-kept old new c (Ok r) after same = ap (λ (s : Export). s.volume) after ∙ volume_same old c
 volume-kept old new c (Err e) after same = ap (λ (s : Export). s.volume) same
+
+-- The model never replies that memory is wanting.
+
+denied-or : (o : Option Denial) (r : Reply) → ¬ (r ≡ NoMemory) → ¬ (option_map_or Denied o r ≡ NoMemory)
+denied-or None r other is = other is
+denied-or (Some why) r other is = cc
+
+never-fence : (s : Export) → ¬ (new_fence s ≡ NoMemory)
+never-fence s is = denied-or (spent s) (Fence (s.last + 1)) (λ q. cc) is
+
+never-enroll : (s : Export) (loss : ℕ) (o : Option AnEnrolled) → ¬ (enroll_reply s loss o ≡ NoMemory)
+never-enroll s loss None is = never-fence s is
+never-enroll s loss (Some e) is = old (nat_lt loss e.loss) is
+  where
+    same : (b : Bool) → ¬ (cond b (Fence e.fence) (new_fence s) ≡ NoMemory)
+    same true q = cc
+    same false q = never-fence s q
+
+    old : (b : Bool) → ¬ (cond b (Denied (denial.OldLoss e.loss)) (cond (loss == e.loss) (Fence e.fence) (new_fence s)) ≡ NoMemory)
+    old true q = cc
+    old false q = same (loss == e.loss) q
+
+never-barred : (s : Export) (mask stamp i : ℕ) (places : List ℕ) → ¬ (barred s mask stamp i places ≡ Some NoMemory)
+never-barred s mask stamp i [] is = cc
+never-barred s mask stamp i (n ∷ places) is = go (has_bit mask i && nat_lt stamp (fence_of s n)) is
+  where
+    go : (b : Bool) → ¬ (cond b (Some (Enrolled i (fence_of s n))) (barred s mask stamp (i + 1) places) ≡ Some NoMemory)
+    go true q = cc
+    go false q = never-barred s mask stamp (i + 1) places q
+
+never-published : (s : Export) (key : Key) (stamp mask : ℕ) → ¬ (unwrap_or (no_publish s key stamp mask) Accepted ≡ NoMemory)
+never-published s key stamp mask is = go _ _ _ unknown revoked enrolled is
+  where
+    unknown : ¬ (option_map Denied (unknown_file s key) ≡ Some NoMemory)
+    unknown q = at (unknown_file s key) q
+      where
+        at : (o : Option Denial) → ¬ (option_map Denied o ≡ Some NoMemory)
+        at None z = cc
+        at (Some why) z = cc
+
+    revoked : ¬ (given_if (nat_lt stamp (latest_of s.blocks key)) (Revoked (latest_of s.blocks key)) ≡ Some NoMemory)
+    revoked q = at (nat_lt stamp (latest_of s.blocks key)) q
+      where
+        at : (b : Bool) → ¬ (given_if b (Revoked (latest_of s.blocks key)) ≡ Some NoMemory)
+        at true z = cc
+        at false z = cc
+
+    enrolled : ¬ (option_and_then (λ (info : FileInfo). barred s mask stamp 0 info.places) (file_of s.tree key.fid) ≡ Some NoMemory)
+    enrolled q = at (file_of s.tree key.fid) q
+      where
+        at : (o : Option FileInfo) → ¬ (option_and_then (λ (info : FileInfo). barred s mask stamp 0 info.places) o ≡ Some NoMemory)
+        at None z = cc
+        at (Some info) z = never-barred s mask stamp 0 info.places z
+
+    go : (a b c : Option Reply) → ¬ (a ≡ Some NoMemory) → ¬ (b ≡ Some NoMemory) → ¬ (c ≡ Some NoMemory) → ¬ (unwrap_or (first_of (a ∷ b ∷ c ∷ [])) Accepted ≡ NoMemory)
+    go (Some r) b c na nb nc q = na (ap Some q)
+    go None (Some r) c na nb nc q = nb (ap Some q)
+    go None None (Some r) na nb nc q = nc (ap Some q)
+    go None None None na nb nc q = cc
+
+never-wanting : (s : Export) (c : Call) → ¬ (export_reply s c ≡ NoMemory)
+never-wanting s (call.Tree c) is = cc
+never-wanting s (call.Begin key text) is = denied-or (no_begin s key) (Begun (s.last + 1) (published_stamp s.blocks key)) (λ q. cc) is
+never-wanting s (call.Publish key stamp mask size) is = never-published s key stamp mask is
+never-wanting s (call.Look key) is = denied-or (no_look s key) (Looked (published_of s.blocks key)) (λ q. cc) is
+never-wanting s (call.Enroll node loss) is = never-enroll s loss (maps.get s.enrolled node) is
+never-wanting s (call.Next node after) is = cc
+never-wanting s (call.Recheck key) is = denied-or (no_look s key) (Looked (published_of s.blocks key)) (λ q. cc) is
+
+-- So memory was wanting for a call for which it may be, and the export is as it was.
+
+pub may-want : (s u : Export) (c : Call) (r : Reply) → IsAnswered s c r u → r ≡ NoMemory → MayWant s c
+may-want s u c r answered is = ⊎_elim
+    (λ (model : (r ≡ export_reply s c) × (u ≡ export_after s c)). absurd (never-wanting s c (sym model.0 ∙ is)))
+    (λ (want : MayWant s c × (r ≡ NoMemory) × (u ≡ s)). want.0)
+    answered
+
+module _ {D : Type 0} (old new : JournalView D) (c : Call) (r : Reply) (is : r ≡ NoMemory) where
+  pub may-lack : IsJournalAnswer old c (answer.Reply r) new → MayLackBehind old.export c
+  may-lack answered = ⊎_elim
+      (λ (closed : (old.closed ≡ true) × (answer.Reply r ≡ answer.Closed) × (new ≡ old)). absurd (let q = closed.1.0 in cc))
+      (λ (opened : (old.closed ≡ false) × ((new.closed ≡ false) × IsJournalReply old c r new)). ⊎_elim
+      (λ (replied : IsAnswered old.export c r new.export × HasEntryRoom old c). inl (may-want old.export new.export c r replied.0 is))
+      (λ (want : IsSome (entry_of c) × (r ≡ NoMemory) × (new.export ≡ old.export)). inr want.0)
+      opened.1.1)
+      answered
+
+  pub export-same : IsJournalAnswer old c (answer.Reply r) new → new.export ≡ old.export
+  export-same answered = ⊎_elim
+      (λ (closed : (old.closed ≡ true) × (answer.Reply r ≡ answer.Closed) × (new ≡ old)). absurd (let q = closed.1.0 in cc))
+      (λ (opened : (old.closed ≡ false) × ((new.closed ≡ false) × IsJournalReply old c r new)). ⊎_elim
+      (λ (replied : IsAnswered old.export c r new.export × HasEntryRoom old c). answered_not old.export new.export c r replied.0 (ap accepts is))
+      (λ (want : IsSome (entry_of c) × (r ≡ NoMemory) × (new.export ≡ old.export)). want.2)
+      opened.1.1)
+      answered
+
+-- A journal that gave no reply and refused nothing stands for what it stood for.
+pub stands-still : {D : Type 0} (tells : Bool) (meter : D → Meter) (image : D → List ℕ → Type 0) (old new : Behind D) (c : Call)
+    → ((first : ℕ) (calls : List Call) → IsJournalKept tells meter image first old calls → IsCallLeft tells meter image first new calls c) → new.refusal ≡ None
+    → (first : ℕ) (calls : List Call) → IsJournalKept tells meter image first old calls → IsJournalKept tells meter image first new calls
+stands-still tells meter image old new c left none first calls kept =
+    subst (λ (o : Option JournalRefusal). IsLeftBy o (IsJournalKept tells meter image first new calls) tells (image new.journal.disk) first (faults (meter new.journal.disk)) new.journal.export calls c)
+    none (left first calls kept)
+
+-- The same of metadata, where there is no reply.
+
+module _ {D : Type 0} {E : Type 0} (tells : Bool) (meter : D → Meter) (image : D → List ℕ → Type 0) (result : Result Reply E) where
+  pub as-before-in : (s u : Export) → OnErr result (u ≡ s) → OnErr result (refusal_of {D = D} (InMemory u) ≡ None → IsAsBefore tells meter image (InMemory s) (InMemory u))
+  as-before-in s u = go result
+    where
+      go : (r : Result Reply E) → OnErr r (u ≡ s) → OnErr r (refusal_of {D = D} (InMemory u) ≡ None → IsAsBefore tells meter image (InMemory s) (InMemory u))
+      go (Ok reply) same = tt
+      go (Err e) same = λ none. record { export_is = same; stands = λ first calls stood. tt }
+
+  pub as-before-behind : (old new : Behind D) (c : Call) → OnErr result (new.refusal ≡ None → new.journal.export ≡ old.journal.export)
+      → OnErr result ((first : ℕ) (calls : List Call) → IsJournalKept tells meter image first old calls → IsCallLeft tells meter image first new calls c)
+      → OnErr result (refusal_of (Journaled new) ≡ None → IsAsBefore tells meter image (Journaled old) (Journaled new))
+  as-before-behind old new c = go result
+    where
+      go : (r : Result Reply E) → OnErr r (new.refusal ≡ None → new.journal.export ≡ old.journal.export)
+          → OnErr r ((first : ℕ) (calls : List Call) → IsJournalKept tells meter image first old calls → IsCallLeft tells meter image first new calls c)
+          → OnErr r (refusal_of (Journaled new) ≡ None → IsAsBefore tells meter image (Journaled old) (Journaled new))
+      go (Ok reply) same left = tt
+      go (Err e) same left = λ none. record { export_is = same none; stands = stands-still tells meter image old new c left none }

@@ -1,4 +1,4 @@
--- The losses of nodes that an export enrolled last.
+-- The losses of nodes that an export enrolled last, each with its fence.
 use Rattle.std.specs.Prelude.{ℕ, ◌==◌, cond, List, [], ◌∷◌, map, Option, None, Some}
 use Rattle.std.specs.List.{filter_map}
 use Rattle.std.specs.Option.{option_map_or}
@@ -6,27 +6,40 @@ use Rattle.std.specs.FinMap as maps
 use Rattle.rz_export_model.specs.Export.{Export, Enrolled}
 use Rattle.rz_tree.specs.declared.parts.Part.{Part}
 use Rattle.rz_tree.specs.declared.parts.Part.TheVariants as part
+use Rattle.rz_metadata.specs.declared.enrolments.Enrolment.{Enrolment}
 
 -- the loss that was enrolled last of a node, or 0
 abbrev pub loss_of : Export → ℕ → ℕ
 loss_of s node = option_map_or (λ e. e.loss) (maps.get s.enrolled node) 0
 
--- the nodes of which a loss was enrolled, each with the last one
-abbrev pub losses_enrolled : Export → List (ℕ × ℕ)
-losses_enrolled s = map (λ (e : ℕ × Enrolled). (e.0, e.1.loss)) (maps.entries s.enrolled)
+-- what was enrolled last of a node
+abbrev pub enrolment_of : ℕ × Enrolled → Enrolment
+enrolment_of e = record { node = e.0; loss = e.1.loss; fence = e.1.fence }
 
--- the first of these that is of a node, or 0
-abbrev pub loss_among : ℕ → List (ℕ × ℕ) → ℕ
-loss_among node [] = 0
-loss_among node (e ∷ es) = cond (e.0 == node) e.1 (loss_among node es)
+-- the last enrolment of each node of which a loss was enrolled
+abbrev pub enrolments : Export → List Enrolment
+enrolments s = map enrolment_of (maps.entries s.enrolled)
 
--- the loss that a part says, with its node
-abbrev pub loss_of_part : Part → Option (ℕ × ℕ)
-loss_of_part (part.Counters last made) = None
-loss_of_part (part.Object fid kind mode mtime size cid places target) = None
-loss_of_part (part.Name path fid) = None
-loss_of_part (part.Block key latest published) = None
-loss_of_part (part.Enrolled node loss fence) = Some (node, loss)
+-- the first of these that is of a node
+abbrev pub among : ℕ → List Enrolment → Option Enrolment
+among node [] = None
+among node (e ∷ es) = cond (e.node == node) (Some e) (among node es)
 
-abbrev pub losses_in : List Part → List (ℕ × ℕ)
-losses_in parts = filter_map loss_of_part parts
+-- its loss, or 0
+abbrev pub loss_among : ℕ → List Enrolment → ℕ
+loss_among node es = option_map_or (λ e. e.loss) (among node es) 0
+
+-- its fence, or 0
+abbrev pub fence_among : ℕ → List Enrolment → ℕ
+fence_among node es = option_map_or (λ e. e.fence) (among node es) 0
+
+-- the enrolment that a part is
+abbrev pub said_by : Part → Option Enrolment
+said_by (part.Counters last made) = None
+said_by (part.Object fid kind mode mtime size cid places target) = None
+said_by (part.Name path fid) = None
+said_by (part.Block key latest published) = None
+said_by (part.Enrolled node loss fence) = Some (record { node = node; loss = loss; fence = fence })
+
+abbrev pub said_in : List Part → List Enrolment
+said_in parts = filter_map said_by parts

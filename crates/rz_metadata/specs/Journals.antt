@@ -1,15 +1,17 @@
 -- For which calls the journal's disk stands after a call of the export.
-use Rattle.std.specs.Prelude.{ℕ, Bool, ◌≡◌, ◌<◌, List, Option, Some, None, IsSome}
+use Rattle.std.specs.Prelude.{ℕ, Bool, ◌≡◌, ◌⊎◌, ◌<◌, List, Option, Some, None, IsSome}
 use Rattle.std.specs.List.{All}
 use Rattle.rz_disk.specs.Meter.{Meter}
 use Rattle.rz_events.specs.declared.export.Call.{Call}
 use Rattle.rz_events.specs.declared.export.Call.TheVariants as call
-use Rattle.rz_export_model.specs.Export.{export_reply}
+use Rattle.rz_export_model.specs.Export.{Export, export_reply}
+use Rattle.rz_export.specs.Calls.{MayWant}
 use Rattle.rz_journal.specs.Said.{entry_of}
 use Rattle.rz_journal.specs.Seen.{calls_after}
 use Rattle.rz_metadata.specs.declared.metadata.Metadata.{Metadata}
+use Rattle.rz_metadata.specs.declared.metadata.Metadata.TheVariants.{InMemory, Journaled}
 use Rattle.rz_metadata.specs.declared.journaled.JournalRefusal.{JournalRefusal}
-use Rattle.rz_metadata.specs.Stands.{export_in, refusal_of, IsJournalOpen, Stands, StandsAtEnd}
+use Rattle.rz_metadata.specs.Stands.{export_in, IsJournalOpen, Stands, StandsAtEnd}
 
 -- the text of a write that begins is one of bytes
 abbrev pub WritesBytes : Call → Type 0
@@ -37,6 +39,20 @@ EndsOn tells meter image m m' refused = (first : ℕ) (calls : List Call) → St
 abbrev pub IsRefused : Option JournalRefusal → (refused : Option Call) → Type 0
 IsRefused None refused = refused ≡ None
 IsRefused (Some why) refused = IsSome refused
+
+-- The export is as it was, and the journal's disk stands for what it stood for.
+pub record IsAsBefore {D : Type 0} (tells : Bool) (meter : D → Meter) (image : D → List ℕ → Type 0) (m m' : Metadata D) : Type 0 where
+  pub export_is : export_in m' ≡ export_in m
+  pub stands : (first : ℕ) (calls : List Call) → Stands tells meter image first m calls → Stands tells meter image first m' calls
+
+-- A call for which memory may be wanting: for its reply, or behind a journal for its entry.
+
+abbrev pub MayLackBehind : Export → Call → Type 0
+MayLackBehind s c = MayWant s c ⊎ IsSome (entry_of c)
+
+abbrev pub MayLack : {D : Type 0} → Metadata D → Call → Type 0
+MayLack (InMemory s) c = MayWant s c
+MayLack (Journaled j) c = MayLackBehind j.journal.export c
 
 -- a call got no reply: where it was refused it has an entry, and otherwise this is so
 abbrev pub MayRefuse : Option JournalRefusal → Call → Type 0 → Type 0

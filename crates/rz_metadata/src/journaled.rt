@@ -1,10 +1,10 @@
 //! An export behind a journal.
-ghost use Rattle.std.specs.Prelude.{◌≡◌, ℕ, List, IsTrue, IfOk, OnOk, OnErr};
+ghost use Rattle.std.specs.Prelude.{◌≡◌, ℕ, List, IsTrue, IsSome, None, IfOk, OnOk, OnErr};
 ghost use Rattle.rz_events.specs.declared.export.Call.{Call as ACall};
 ghost use Rattle.rz_export_model.specs.Export.{export_reply, export_after, is_proper};
 ghost use Rattle.rz_journal.specs.Seen.{calls_after};
 ghost use Rattle.rz_events.specs.Borrowed.{call_of};
-ghost use Rattle.rz_metadata.specs.Journals.{MayRefuse};
+ghost use Rattle.rz_metadata.specs.Journals.{MayLackBehind, MayRefuse};
 ghost use Rattle.rz_metadata.specs.Stands.{CountsOn, IsJournalKept, IsCallLeft, IsUnrefused};
 
 use crate::memory::{NoReply, wants_memory};
@@ -38,6 +38,10 @@ impl<D: Disk> Journaled<D> {
         ensures volume { self.new.journal.export.volume ≡ self.old.journal.export.volume }
         ensures open { OnOk result (IsUnrefused self.old → IsUnrefused self.new) }
         ensures refused { OnErr result (IsUnrefused self.old → MayRefuse self.new.refusal (call_of ask.entry) (IsUnrefused self.new)) }
+        ensures unkept { OnErr result (self.new.refusal ≡ None → self.new.journal.export ≡ self.old.journal.export) }
+        ensures wanting { OnErr result (IsTrue (is_proper self.old.journal.export (call_of ask.entry)) → self.new.refusal ≡ None → MayLackBehind self.old.journal.export (call_of ask.entry)) }
+        ensures shut { IfOk result (λ r. self.old.refusal ≡ None) }
+        ensures still { OnErr result (IsSome self.old.refusal → self.new ≡ self.old) }
         ensures counted { IsUnrefused self.old → (first : ℕ) → CountsOn D.meter first self.old → CountsOn D.meter first self.new }
     {
         if self.refusal.is_some() || !self.journal.export().takes_ref(ask) {
@@ -56,6 +60,8 @@ impl<D: Disk> Journaled<D> {
         ensures volume { self.new.journal.export.volume ≡ self.old.journal.export.volume }
         ensures open { OnOk result (IsUnrefused self.old → IsUnrefused self.new) }
         ensures refused { OnErr result (IsUnrefused self.old → MayRefuse self.new.refusal (call_of ask.entry) (IsUnrefused self.new)) }
+        ensures unkept { OnErr result (self.new.refusal ≡ None → self.new.journal.export ≡ self.old.journal.export) }
+        ensures wanting { OnErr result (self.new.refusal ≡ None → MayLackBehind self.old.journal.export (call_of ask.entry)) }
         ensures counted { IsUnrefused self.old → (first : ℕ) → CountsOn D.meter first self.old → CountsOn D.meter first self.new }
     {
         match self.journal.answer_ref(ask) {

@@ -1,6 +1,7 @@
 //! An export in memory.
-ghost use Rattle.std.specs.Prelude.{◌≡◌, IfOk, OnOk, OnErr};
-ghost use Rattle.rz_export_model.specs.Export.{export_reply, export_after};
+ghost use Rattle.std.specs.Prelude.{◌≡◌, IsTrue, IfOk, OnOk, OnErr};
+ghost use Rattle.rz_export_model.specs.Export.{export_reply, export_after, is_proper};
+ghost use Rattle.rz_export.specs.Calls.{MayWant};
 ghost use Rattle.rz_events.specs.Borrowed.{call_of};
 ghost use Rattle.rz_metadata.specs.Stands.{wants_memory};
 
@@ -17,6 +18,7 @@ pub(crate) fn reply_to(export: &mut Export, ask: CallRef<'_>) -> Result<Reply, N
     ensures reply { IfOk result (λ r. r ≡ export_reply export.old (call_of ask.entry)) }
     ensures after { OnOk result (export.new ≡ export_after export.old (call_of ask.entry)) }
     ensures err { OnErr result (export.new ≡ export.old) }
+    ensures wanting { OnErr result (IsTrue (is_proper export.old (call_of ask.entry)) → MayWant export.old (call_of ask.entry)) }
 {
     if !export.takes_ref(ask) {
         return Err(NoReply);

@@ -3,7 +3,7 @@ ghost use Rattle.std.specs.Prelude.{◌≡◌, ◌⊎◌, ◌≤◌, ℕ, true, 
 ghost use Rattle.rz_disk.specs.Meter.{Rises, faults};
 ghost use Rattle.rz_events.specs.declared.files.NodeSpec.{NodeSpec as ANode};
 ghost use Rattle.rz_events.specs.declared.export.Call.{Call as ACall};
-ghost use Rattle.rz_export_model.specs.Export.{export_reply, export_after, new_export, published_after};
+ghost use Rattle.rz_export_model.specs.Export.{export_reply, export_after, fence_of, is_proper, new_export, published_after};
 ghost use Rattle.rz_journal.specs.JournalText.{IsTextOf};
 ghost use Rattle.rz_journal.specs.Kept.{IsExportAfter};
 ghost use Rattle.rz_journal.specs.Opening.{IsJournalRefused};
@@ -12,11 +12,11 @@ ghost use Rattle.rz_cells_slots.specs.Stands.{IsShut};
 ghost use Rattle.rz_events.specs.Borrowed.{call_of};
 ghost use Rattle.rz_metadata.specs.Enrolled.{loss_of};
 ghost use Rattle.rz_metadata.specs.Reopened.{AllTextsOf, IsAsItCame, MakesExport};
-ghost use Rattle.rz_metadata.specs.Journals.{MayRefuse};
+ghost use Rattle.rz_metadata.specs.Journals.{IsAsBefore, MayLack, MayRefuse};
 ghost use Rattle.rz_metadata.specs.Stands.{export_in, disk_of, is_journaled, CountsFaults, IsJournalOpen, Stands, StandsAtEnd, refusal_of};
 
+use crate::enrolments::{fences_of, losses_of};
 use crate::journaled::{JournalRefusal, Journaled};
-use crate::losses::losses_of;
 use crate::memory::{NoReply, reply_to};
 use rz_cells::FormatFault;
 use rz_config::Volume;
@@ -99,6 +99,17 @@ impl<D: Disk> Metadata<D> {
         }
     }
 
+    /// Whether the export takes a call: lengths, masks, stamps and nodes are those of the volume, and a publish
+    /// is one of a block that was begun.
+    pub fn takes(&self, ask: CallRef<'_>) -> bool
+        ensures { result ≡ is_proper (export_in self.now) (call_of ask.entry) }
+    {
+        match self {
+            Metadata::InMemory(export) => export.takes_ref(ask),
+            Metadata::Journaled(journaled) => journaled.journal.export().takes_ref(ask),
+        }
+    }
+
     /// The reply to what an operation asks. Behind a journal a call that is accepted stands on the disk
     /// then.
     pub fn reply(&mut self, ask: CallRef<'_>) -> Result<Reply, NoReply>
@@ -110,6 +121,14 @@ impl<D: Disk> Metadata<D> {
         // A journal that is open stays so after a reply. Without one it may refuse the call, where that has an entry.
         ensures open { OnOk result (IsJournalOpen self.old → IsJournalOpen self.new) }
         ensures refused { OnErr result (IsJournalOpen self.old → MayRefuse (refusal_of self.new) (call_of ask.entry) (IsJournalOpen self.new)) }
+
+        // Where it did not refuse it, all is as it was; and memory was wanting, where the export takes the call.
+        ensures unkept { OnErr result (refusal_of self.new ≡ None → IsAsBefore D.tells D.meter D.image self.old self.new) }
+        ensures wanting { OnErr result (IsTrue (is_proper (export_in self.old) (call_of ask.entry)) → refusal_of self.new ≡ None → MayLack self.old (call_of ask.entry)) }
+
+        // After a refusal there is no reply any more.
+        ensures shut { IfOk result (λ r. refusal_of self.old ≡ None) }
+        ensures still { OnErr result (IsSome (refusal_of self.old) → self.new ≡ self.old) }
 
         // On every exit.
         ensures counted { IsJournalOpen self.old → (first : ℕ) → CountsFaults D.meter first self.old → CountsFaults D.meter first self.new }
@@ -139,6 +158,16 @@ impl<D: Disk> Metadata<D> {
         match self {
             Metadata::InMemory(export) => losses_of(alloc, export, nodes),
             Metadata::Journaled(journaled) => losses_of(alloc, journaled.journal.export(), nodes),
+        }
+    }
+
+    /// The fence of the last enrolment of each of these nodes, or 0.
+    pub fn fences(&self, alloc: Global, nodes: &[NodeSpec]) -> Result<Vec<u64>, AllocError>
+        ensures { IfOk result (λ v. v.items ≡ map (λ (n : ANode). fence_of (export_in self.now) n.sid) nodes.now) }
+    {
+        match self {
+            Metadata::InMemory(export) => fences_of(alloc, export, nodes),
+            Metadata::Journaled(journaled) => fences_of(alloc, journaled.journal.export(), nodes),
         }
     }
 

@@ -90,7 +90,7 @@ impl<D: Disk> Node<D> {
     }
 
     /// The stamp up to which it keeps no record.
-    pub(crate) fn fence(&self) -> u64
+    pub fn fence(&self) -> u64
         ensures { result ≡ self.now.state.fence }
     {
         self.cells.fence()

@@ -21,7 +21,7 @@ use Rattle.rz_core.proofs.NodeLaws.{node, at-node, at-own, IsRows, rows, filter-
 use Rattle.rz_core.proofs.EnrollLaws.{AreEnrolled, export-rows, enrolled-has, new_cases, none_before, fence_drawn}
 use Rattle.rz_core.proofs.ExportCalls.{enrolment}
 use Rattle.rz_log_laws.specs.Losses.{last_loss, AreLossesEnrolled, AreLossesKnown}
-use Rattle.rz_log_laws.proofs.Losses.{broke-up, has-export, node-is, not_lost}
+use Rattle.rz_log_laws.proofs.Losses.{enrolled-most, not_lost, broke-up, has-export, node-is}
 use Rattle.rz_restart_laws.specs.Fences.{last_given, AreFencesGiven, AreFencesKnown, AreStaleTold}
 
 -- ---- the fences of a word
@@ -49,19 +49,6 @@ module _ (v : Volume) (f : Facts) where
       go rest false off (inr has) = rest has
   one-fence (x ∷ w) r by n l g (inl is) = cc
   one-fence (x ∷ w) r by n l g (inr has) = one-fence w r.0 by n l g has
-
-  -- no loss that is enrolled is above the last one
-  most : (w : List Event) → IsRows v f w → (by : Actor) (n l g : ℕ) → Has w (e.Enroll by n l g) → l ≤ last_loss w n
-  most [] r by n l g has = absurd has
-  most (e.Enroll a m k j ∷ w) r by n l g has = go (most w r.0 by n l g) (n == m) refl has
-    where
-      go : (Has w (e.Enroll by n l g) → l ≤ last_loss w n) → (t : Bool) → (n == m) ≡ t → Has (e.Enroll a m k j ∷ w) (e.Enroll by n l g) → l ≤ cond t k (last_loss w n)
-      go rest true on (inl is) = let same : k ≡ l = cc in omega (arith, same)
-      go rest true on (inr has) = r.1.2.top by l g (subst (λ z. Has w (e.Enroll by z l g)) (eqb-true n m on) has)
-      go rest false off (inl is) = let at : m ≡ n = cc in let on = eq-eqb n m (sym at) in absurd (cc)
-      go rest false off (inr has) = rest has
-  most (x ∷ w) r by n l g (inl is) = cc
-  most (x ∷ w) r by n l g (inr has) = most w r.0 by n l g has
 
 -- the last loss has a fence, where one was enrolled
 last-fenced : (w : List Event) (n : ℕ) → (last_loss w n ≡ 0) ⊎ ((g : ℕ) × (enrolled w n (last_loss w n) ≡ Some g))
@@ -203,7 +190,7 @@ given-drawn v h legal n = go (enrolled (export h) n (last_loss (export h) n)) re
 -- the fence of a loss that is new since a log was drawn after it
 drawn-since : (v : Volume) (h more : List Event) → IsLegalInRuns v (more ++ h) → (by : Actor) (n l g : ℕ) → last_loss (export h) n < l
     → Has (export (more ++ h)) (e.Enroll by n l g) → last_drawn (export h) < g
-drawn-since v h [] legal by n l g less has = let low = most v (facts h) (export h) (export-rows v h legal) by n l g has in absurd (omega (arith, less, low))
+drawn-since v h [] legal by n l g less has = let low = enrolled-most v h legal n by l g has in absurd (omega (arith, less, low))
 drawn-since v h (e.Enroll a m k j ∷ more) legal by n l g less (inl is) =
     let at : m ≡ n = cc in
     let loss : k ≡ l = cc in
