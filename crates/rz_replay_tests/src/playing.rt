@@ -91,6 +91,16 @@ pub(super) fn play<D: Disk>(
     play_over(rt, line, script, disks, MemLink::new(Vec::new(rt.alloc())))
 }
 
+/// What stands behind this start of a line. It is empty where no line begins so.
+pub(super) fn behind<'t>(text: &'t str, start: &str) -> &'t str {
+    for line in text.lines() {
+        if let Some(words) = line.strip_prefix(start) {
+            return words;
+        }
+    }
+    ""
+}
+
 /// The disks of a play, of which this one has the power that goes, or all of them.
 pub(super) fn disks_on<'a>(
     rt: &(impl Abort + AllocGlobal),
