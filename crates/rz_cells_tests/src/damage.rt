@@ -148,6 +148,19 @@ fn a_blank_disk_is_opened_by_what_stands_on_it(rt: HostRuntime) -> Result<(), Fa
     Ok(())
 }
 
+#[test]
+fn a_disk_that_lacks_a_byte_is_refused(rt: HostRuntime) -> Result<(), Fail> {
+    let good = blank(rt.alloc(), ONE_SIZE - 1, 1).expect(&rt, "memory");
+    let told = opened(&rt, ONE, good.as_slice());
+    drop(good);
+    let wanted = OpenFault::WrongSize {
+        have: 8513,
+        need: 8514,
+    };
+    assert!(rt; told == ([0; 4], Some(wanted)));
+    Ok(())
+}
+
 /// Two versions of one block in the first pair, one of another in the second, and a cell that is empty
 /// before bytes that are not looked at.
 fn two_pairs(alloc: Global) -> Result<Vec<u8>, AllocError> {

@@ -5,7 +5,7 @@ ghost use Rattle.rz_events.specs.declared.files.Kind.{Kind};
 ghost use Rattle.rz_tree.specs.declared.parts.Part.{Part};
 
 use rz_config::Volume;
-use rz_events::{Call, Key, Kind, Places, Reply, Text, TreeCall, TreeReply};
+use rz_events::{Call, Denial, Key, Kind, Places, Reply, Text, TreeCall, TreeReply};
 use rz_export::Export;
 use rz_tree::Part;
 use std::alloc::{AllocError, Global};
@@ -88,5 +88,28 @@ fn a_file_is_made_written_and_taken_away(rt: HostRuntime) -> Result<(), Fail> {
     let gone = is_gone(&rt, &mut export);
     drop(export);
     assert!(rt; made && begun && gone);
+    Ok(())
+}
+
+// The reply to the first begin where this was the last stamp drawn.
+fn begun_after(rt: &(impl Abort + AllocGlobal), last: u64) -> Reply {
+    let volume = Volume::plain(rt.alloc()).expect(rt, "memory");
+    let mut export = Export::new(rt.alloc(), volume, last).expect(rt, "memory");
+    let made = is_made(rt, &mut export);
+    let reply = export.begin(Key { fid: 1, block: 0 }).expect(rt, "memory");
+    drop(export);
+    assert!(rt; made);
+    reply
+}
+
+#[test]
+fn stamps_are_spent(rt: HostRuntime) -> Result<(), Fail> {
+    let last = begun_after(&rt, u64::MAX - 1);
+    let is_last = matches!(&last, Reply::Begun { stamp, base: 0 } if *stamp == u64::MAX);
+    drop(last);
+    let none = begun_after(&rt, u64::MAX);
+    let is_spent = matches!(&none, Reply::Denied(Denial::StampsSpent));
+    drop(none);
+    assert!(rt; is_last && is_spent);
     Ok(())
 }

@@ -4,12 +4,14 @@
 //!
 //! They stand beside the crate and not in it, since a crate with tests is proved twice.
 //!
-//! In reading order: `playing`, `faults`, `outages`.
+//! In reading order: `playing`, `faults`, `outages`, `places`.
 #![tactic(auto)]
 
 #[cfg(test)]
 mod faults;
 #[cfg(test)]
 mod outages;
+#[cfg(test)]
+mod places;
 #[cfg(test)]
 mod playing;

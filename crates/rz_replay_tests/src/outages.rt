@@ -1,6 +1,6 @@
 //! A loss of power at each call of a disk, and at each call of all disks: what the next play reads.
 
-use super::playing::{ALL, DISKS, FIRST, disks_on, play};
+use super::playing::{ALL, DISKS, FIRST, behind, disks_on, play};
 use rz_disk::Disk;
 use rz_test_disks::Power;
 use std::process::Abort;
@@ -66,16 +66,6 @@ const CALLS: u64 = 593;
 
 /// A crash keeps none of the bytes that wait for a sync, all of them, or each third.
 const PICKS: [u64; 3] = [0, 1, 3];
-
-/// What stands behind this start of a line. It is empty where no line begins so.
-fn behind<'t>(text: &'t str, start: &str) -> &'t str {
-    for line in text.lines() {
-        if let Some(words) = line.strip_prefix(start) {
-            return words;
-        }
-    }
-    ""
-}
 
 /// What was told of a client's operation of this number. It is empty where nothing was.
 fn words_on<'t>(

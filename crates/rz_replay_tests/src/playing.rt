@@ -2,7 +2,7 @@
 
 use rz_disk::Disk;
 use rz_link::MemLink;
-use rz_ports::{PlainSink, PlainSource};
+use rz_ports::{PlainSink, PlainSource, Source};
 use rz_replay::replay;
 use rz_test_disks::{OutageDisk, Power};
 use std::process::Abort;
@@ -34,18 +34,18 @@ fn words_of(rt: &(impl Abort + AllocGlobal), line: &str) -> Vec<String> {
     words
 }
 
-/// Plays a script, and gives the status and what was written. The link loses what stands in its list.
-pub(super) fn play_over<D: Disk>(
+/// Plays what a source gives, and gives the status and what was written to a sink with room for so many bytes. The
+/// link loses what stands in its list.
+pub(super) fn play_streams<I: Source, D: Disk>(
     rt: &(impl Abort + AllocGlobal),
     line: &str,
-    script: &str,
+    mut input: I,
+    room: usize,
     disks: &mut Vec<D>,
     mut link: MemLink,
 ) -> (u8, String) {
     let words = words_of(rt, line);
-    let bytes = Vec::from_slice(rt.alloc(), script.as_bytes()).expect(rt, "memory");
-    let mut input = PlainSource::new(bytes);
-    let mut output = PlainSink::with_room(rt.alloc(), 4096).expect(rt, "memory");
+    let mut output = PlainSink::with_room(rt.alloc(), room).expect(rt, "memory");
     let played = replay(
         rt.alloc(),
         &words,
@@ -64,6 +64,23 @@ pub(super) fn play_over<D: Disk>(
     (status, text)
 }
 
+/// A source of a script.
+pub(super) fn source_of(rt: &(impl Abort + AllocGlobal), script: &str) -> PlainSource {
+    PlainSource::new(Vec::from_slice(rt.alloc(), script.as_bytes()).expect(rt, "memory"))
+}
+
+/// Plays a script, and gives the status and what was written. The link loses what stands in its list.
+pub(super) fn play_over<D: Disk>(
+    rt: &(impl Abort + AllocGlobal),
+    line: &str,
+    script: &str,
+    disks: &mut Vec<D>,
+    link: MemLink,
+) -> (u8, String) {
+    let input = source_of(rt, script);
+    play_streams(rt, line, input, 4096, disks, link)
+}
+
 /// The same over a link that loses nothing.
 pub(super) fn play<D: Disk>(
     rt: &(impl Abort + AllocGlobal),
@@ -72,6 +89,16 @@ pub(super) fn play<D: Disk>(
     disks: &mut Vec<D>,
 ) -> (u8, String) {
     play_over(rt, line, script, disks, MemLink::new(Vec::new(rt.alloc())))
+}
+
+/// What stands behind this start of a line. It is empty where no line begins so.
+pub(super) fn behind<'t>(text: &'t str, start: &str) -> &'t str {
+    for line in text.lines() {
+        if let Some(words) = line.strip_prefix(start) {
+            return words;
+        }
+    }
+    ""
 }
 
 /// The disks of a play, of which this one has the power that goes, or all of them.
