@@ -60,6 +60,34 @@ impl<D: Disk> Cells<D> {
         })
     }
 
+    /// The cells of a disk that is not looked at, as one with this fence and nothing in its cells. What
+    /// stands on it is known once it was made anew, or opened.
+    pub fn unopened(alloc: Global, geometry: Geometry, fence: u64, disk: D) -> Result<Cells<D>, D>
+        requires { IsGeometry geometry }
+        ensures disk { IfOk result (λ c. c.disk ≡ disk) }
+        ensures geometry { IfOk result (λ c. c.geometry ≡ geometry) }
+        ensures fence { IfOk result (λ c. c.fence ≡ fence) }
+        ensures heads { IfOk result (λ c. (cell : ℕ) → in_cell c.heads cell ≡ None) }
+        ensures back { IfErr result (λ d. d ≡ disk) }
+    {
+        let Ok(room) = CellsMemory::new(alloc, &geometry) else {
+            return Err(disk);
+        };
+        let CellsMemory {
+            gates,
+            heads,
+            buffer,
+        } = room;
+        Ok(Cells {
+            disk,
+            geometry,
+            fence,
+            gates,
+            heads,
+            buffer,
+        })
+    }
+
     /// Makes the disk anew where it is, with this fence and nothing in its cells.
     ///
     /// It takes no memory but that of the disk's reset.

@@ -23,6 +23,10 @@ pub record NodeView (D : Type 0) : Type 0 where
   pub geometry : Geometry
   pub state : NodeState
 
+-- a node that lost so many disks and has no new one yet: it holds nothing, and its fence is still that of its last replacement
+abbrev pub lost : ℕ → ℕ → NodeState
+lost fence losses = record { phase = Lost; fence = fence; losses = losses; held = maps.empty; undecided = None }
+
 abbrev pub view_code : {D : Type 0} → Coded D → Coded (NodeView D)
 view_code {D = D} disk =
     code_by (D × (Geometry × NodeState)) (coded× disk (coded× geometries.the_row.coded node_code))

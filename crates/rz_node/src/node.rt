@@ -9,6 +9,7 @@ ghost use Rattle.rz_cells_slots.specs.Stands.{IsShut, StandsFor};
 ghost use Rattle.rz_node_model.specs.Answers.{IsNodeAnswer};
 ghost use Rattle.rz_node_model.specs.Afterwards.{after_answer};
 ghost use Rattle.rz_node_model.specs.States.{fresh};
+ghost use Rattle.rz_node.specs.View.{lost};
 
 use rz_cells::{Cells, FormatFault, Geometry};
 use rz_disk::Disk;
@@ -82,6 +83,37 @@ impl<D: Disk> Node<D> {
         }
     }
 
+    /// A node that lost so many disks, with the fence of its last replacement, on a new disk that is not
+    /// looked at.
+    pub fn lost(
+        alloc: Global,
+        geometry: Geometry,
+        fence: u64,
+        losses: u64,
+        disk: D,
+    ) -> Result<Node<D>, D>
+        requires { IsGeometry geometry }
+        ensures node { IfOk result (λ n. n ≡ record { disk = disk; geometry = geometry; state = lost fence losses }) }
+        ensures back { IfErr result (λ d. d ≡ disk) }
+    {
+        let Ok(index) = Index::with_room(alloc, geometry.cells) else {
+            return Err(disk);
+        };
+        match Cells::unopened(alloc, geometry, fence, disk) {
+            Ok(cells) => Ok(Node {
+                phase: Phase::Lost,
+                losses,
+                undecided: None,
+                cells,
+                index,
+            }),
+            Err(disk) => {
+                drop(index);
+                Err(disk)
+            }
+        }
+    }
+
     /// Whether it is up, down or lost.
     pub fn phase(&self) -> Phase
         ensures { result ≡ self.now.state.phase }
@@ -94,6 +126,13 @@ impl<D: Disk> Node<D> {
         ensures { result ≡ self.now.state.fence }
     {
         self.cells.fence()
+    }
+
+    /// How many disks it lost.
+    pub fn losses(&self) -> u64
+        ensures { result ≡ self.now.state.losses }
+    {
+        self.losses
     }
 
     /// How many disks it lost, where it is lost.
