@@ -18,6 +18,7 @@ use Rattle.rz_node_model.specs.Afterwards.{after_answer}
 use Rattle.rz_node_model.specs.NodeEvents.{node_event}
 use Rattle.rz_node_model.specs.States.{NodeState}
 use Rattle.rz_cells_slots.specs.declared.geometry.Geometry.{Geometry}
+use Rattle.rz_node.specs.Fetched.{IsFetchOf}
 use Rattle.rz_node.specs.View.{NodeView}
 use Rattle.rz_node.specs.Leaves.{Leaves}
 use Rattle.rz_core.specs.History.{Facts, facts}
@@ -31,7 +32,7 @@ use Rattle.rz_play_laws.specs.Own.{IsOfActor}
 use Rattle.rz_node_laws.specs.Images.{IsImaged}
 use Rattle.rz_block_laws.specs.Laws.{IsMessage, IsFittingLaw}
 use Rattle.rz_block_laws.specs.Turns.{HasInHand, IsTrueActor, IsHeard, IsHeardLaw, IsToldLaw}
-use Rattle.rz_driver_nodes.specs.Nodes.{IsAsked, IsFetchOf}
+use Rattle.rz_driver_nodes.specs.Nodes.{IsAsked}
 use Rattle.rz_driver_nodes.specs.Images.{HasImages, NodeStaysCoherent, NodeUnchanged}
 use Rattle.rz_driver_nodes.proofs.Fits.{is_bad}
 
@@ -56,20 +57,7 @@ no-event by n cells s question given actor is none = absurd is
 
 -- ---- answers
 
--- a record that was fetched is one of the layout
-pub fetch-of : (y : Layout) (question : NodeAsk) (given : NodeAnswer) → IsAnswerTo y question given → IsFetchOf y given
-fetch-of y (ask.Fetch key position stamp) (answer.Fetch a) fits = fits
-fetch-of y question (answer.Keep a) fits = tt
-fetch-of y question (answer.Refill a) fits = tt
-fetch-of y question (answer.Drop a) fits = tt
-fetch-of y question (answer.Probe a) fits = tt
-fetch-of y question (answer.Stop a) fits = tt
-fetch-of y question (answer.Start a) fits = tt
-fetch-of y question (answer.Lose a) fits = tt
-fetch-of y question (answer.Replace a) fits = tt
-fetch-of y question (answer.Fetch a) fits = absurd fits
-
--- and that is all that is not known of a node's answer to an actor
+-- that a record which was fetched is one of the layout is all that the kinds of ask and answer do not tell
 pub answers-to : (y : Layout) (cells : ℕ) (s : NodeState) (question : NodeAsk) (given : NodeAnswer) → IsOfActor question → IsNodeAnswer cells s question given → IsFetchOf y given → IsAnswerTo y question given
 answers-to y cells s (ask.Keep head) (answer.Keep a) actor is fits = tt
 answers-to y cells s (ask.Fetch key position stamp) (answer.Fetch a) actor is fits = fits
@@ -140,12 +128,6 @@ module _ {D : Type 0} (text : D → List ℕ) (image : D → List ℕ → Type 0
   -- nothing happened that is to be noted
   pub eventless : IsOfActor question → IsNodeAnswer node.geometry.cells node.state question given → node_event by n question given ≡ None → NodeUnchanged image by n m node node' h
   eventless actor_asks is none = λ v old actor has. (now-has v old [] actor has, after ∙ no-event by n node.geometry.cells node.state question given actor_asks is none)
-
-  -- a record that was fetched is one of the layout
-  pub fits-always : (y : Layout) → m.layout ≡ y → (IsFetchOf y given → ⊥) → NodeUnchanged image by n m node node' h
-  fits-always y layout never = λ v old actor has.
-      let fits = fetch-of v.layout question given (heard v old [] actor has).answers in
-      absurd (never (subst (λ (z : Layout). IsFetchOf z given) (sym actor.true_to.layout_is ∙ layout) fits))
 
   module _ (x : Event) (is : node_event by n question given ≡ Some x) (new : Machine) (answered : FitsIfEnough m given bins new) where
     hand : (v : Volume) (old more : List Event) → IsTrueActor v (facts (h ++ old)) by m → HasImages image v (facts (h ++ old)) n node → HasInHand v (facts (more ++ (h ++ old))) new

@@ -1,17 +1,14 @@
 -- What a message to a node makes of the parts that it uses.
 use Rattle.std.specs.Prelude.{ℕ, Bool, true, false, ◌≡◌, List, ◌∷◌, Some}
-use Rattle.mj_angles.specs.declared.layout.Layout.{Layout}
 use Rattle.rz_events.specs.declared.keys.Actor.{Actor}
 use Rattle.rz_events.specs.declared.nodes.NodeAsk.{NodeAsk}
 use Rattle.rz_events.specs.declared.nodes.NodeAnswer.{NodeAnswer}
-use Rattle.rz_events.specs.declared.nodes.NodeAnswer.TheVariants as answer
 use Rattle.rz_events.specs.declared.events.Event.{Event}
 use Rattle.rz_events.specs.declared.events.Event.TheVariants as e
 use Rattle.rz_node_model.specs.States.{NodeState}
 use Rattle.rz_node_model.specs.Answers.{IsNodeAnswer}
 use Rattle.rz_node_model.specs.Afterwards.{after_answer}
 use Rattle.rz_node_model.specs.NodeEvents.{node_event}
-use Rattle.rz_client_model.specs.Read.{IsFetched}
 use Rattle.rz_operation.specs.Answers.{IsWorkAfter}
 use Rattle.rz_operation.specs.Machine.{Machine}
 use Rattle.rz_operation_model.specs.Ask.{AskNode, ask_of}
@@ -22,11 +19,6 @@ use Rattle.rz_driver_asks.specs.Parts.{IsMachineTold, IsNoted}
 -- the machine asks this of the node
 abbrev pub IsAsked : Machine → ℕ → NodeAsk → Type 0
 IsAsked m n question = ask_of m.layout m.work ≡ AskNode n question
-
--- a record that was fetched is one of the layout, as far as its answer tells
-abbrev pub IsFetchOf : Layout → NodeAnswer → Type 0
-IsFetchOf layout (answer.Fetch a) = IsFetched layout a
-IsFetchOf layout given = Unit {0}
 
 -- a node answered, in the state that it had, and has the state after it
 pub record IsNodeServed (cells : ℕ) (question : NodeAsk) (given : NodeAnswer) (s s' : NodeState) : Type 0 where

@@ -1,19 +1,20 @@
 //! Messages to nodes.
-ghost use Rattle.std.specs.Prelude.{◌≡◌, ◌↔◌, ◌<◌, ◌≤◌, ℕ, List, true, IsTrue, OnOk, OnErr, IfOk, length};
+ghost use Rattle.std.specs.Prelude.{◌≡◌, ◌<◌, ◌≤◌, ℕ, List, true, IsTrue, OnOk, OnErr, IfOk, length};
 ghost use Rattle.rz_cells_slots.specs.Opening.{opening_calls};
 ghost use Rattle.mj_angles.specs.Layout.{max_bins_of};
 ghost use Rattle.rz_block_laws.specs.Laws as laws;
 ghost use Rattle.rz_node.specs.Calls.{Counts, IsNoStart};
+ghost use Rattle.rz_node.specs.Fetched.{IsFetchOf};
 ghost use Rattle.rz_operation.specs.Answers.{FitsIfEnough, IsAnswerTo, IsPlaced};
 ghost use Rattle.rz_operation_model.specs.Turns.{goes_by_link};
 ghost use Rattle.rz_play_laws.specs.Own.{IsOfActor};
-ghost use Rattle.rz_driver_nodes.specs.Nodes.{IsNodeServed, IsAsked, IsFetchOf, IsThroughPart, IsReplyLostPart, IsRequestLostPart};
+ghost use Rattle.rz_driver_nodes.specs.Nodes.{IsNodeServed, IsAsked, IsThroughPart, IsReplyLostPart, IsRequestLostPart};
 ghost use Rattle.rz_driver_nodes.specs.Meters.{OneNodeGoesOn};
 ghost use Rattle.rz_driver_nodes.specs.Images.{NodeStaysCoherent, NodeUnchanged};
 
 use mj_angles::Layout;
 use rz_disk::Disk;
-use rz_events::{Actor, Event, FetchAnswer, NodeAnswer, NodeAsk};
+use rz_events::{Actor, Event, NodeAnswer, NodeAsk};
 use rz_log::Log;
 use rz_node::{Node, answer_node, is_record, node_event};
 use rz_operation::{Machine, is_placed};
@@ -34,6 +35,7 @@ fn serve<D: Disk>(
     requires room { max_bins_of layout ≤ length bins.old }
     ensures served { IfOk result (λ a. IsNodeServed node.old.geometry.cells ask.now a node.old.state node.new.state) }
     ensures geometry { node.new.geometry ≡ node.old.geometry }
+    ensures fetched { IfOk result (λ a. IsFetchOf layout a) }
     ensures no_start { OnOk result (IsNoStart ask.now) }
     ensures actor { OnOk result (IsOfActor ask.now) }
     ensures message { IfOk result (λ a. IsTrue D.tells → (n : ℕ) → IsAsked machine.now n ask.now → (handed : List ℕ) × laws.IsMessage D.text D.image machine.now n node.old.geometry.cells node.old.geometry node.old.state ask.now a handed bins.new node.old.disk node.new.disk) }
@@ -54,18 +56,6 @@ fn serve<D: Disk>(
         NodeAsk::Fetch { .. } | NodeAsk::Drop { .. } | NodeAsk::Probe | NodeAsk::Replace { .. } =>
             Ok(answer_node(alloc, node, ask, bins)),
         NodeAsk::Stop | NodeAsk::Start | NodeAsk::Lose => Err(Halted),
-    }
-}
-
-/// Whether a record that a node gave is one of the layout, as far as the answer tells.
-fn is_fetch_of(layout: Layout, answer: &NodeAnswer) -> bool
-    ensures { IsTrue result ↔ IsFetchOf layout answer.now }
-{
-    match answer {
-        NodeAnswer::Fetch(FetchAnswer::Held(held)) => {
-            held.base < held.stamp && held.length as usize <= layout.block_bytes()
-        }
-        _ => true,
     }
 }
 
@@ -113,9 +103,6 @@ pub fn through<D: Disk>(
         return Err(Halted);
     }
     let answer = serve(alloc, layout, machine, &ask, node, bins)?;
-    if !is_fetch_of(layout, &answer) {
-        return Err(Halted);
-    }
     let Some(event) = node_event(by, number, &ask, &answer) else {
         return Err(Halted);
     };

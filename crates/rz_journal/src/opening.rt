@@ -1,12 +1,13 @@
 //! A journal opened again.
 
-ghost use Rattle.std.specs.Prelude.{◌≡◌, ◌⊎◌, false, IsTrue, List, IfOk, IfErr, MatchResult};
+ghost use Rattle.std.specs.Prelude.{◌≡◌, ◌⊎◌, false, IsTrue, List, IfOk, IfErr, MatchResult, length};
 ghost use Rattle.rz_disk.specs.Images.{Only, Within};
 ghost use Rattle.rz_disk.specs.Meter.{Lasts, Rises, faults};
 ghost use Rattle.rz_journal.specs.Opening.{IsReopened, IsJournalRefused, fault_of};
 ghost use Rattle.rz_events.specs.declared.export.Call.{Call};
 ghost use Rattle.rz_journal.specs.JournalText.{IsTextOf};
 ghost use Rattle.rz_journal.specs.Kept.{IsExportAfter};
+ghost use Rattle.rz_journal.specs.Stands.{disk_bytes};
 
 use crate::journal::{Journal, rules};
 use crate::rebuilding::{JournalFault, rebuild};
@@ -29,6 +30,9 @@ impl<D: Disk> Journal<D> {
 
         // It is the one after the calls for which the text stands.
         ensures calls { IfOk result (λ j. IsTrue D.tells → (calls : List Call) → IsTextOf volume (D.text disk) calls → IsExportAfter j.export calls) }
+
+        // No disk of another size opens, whether it tells what it holds or not.
+        ensures sized { IfOk result (λ j. length (D.text disk) ≡ disk_bytes) }
 
         // Each fault is the first that the text has.
         ensures refused { IfErr result (λ e. IsJournalRefused D.tells volume (D.text disk) e.1) }

@@ -1,5 +1,5 @@
 //! The metadata of a store.
-ghost use Rattle.std.specs.Prelude.{◌≡◌, ◌⊎◌, ◌≤◌, ℕ, true, false, List, [], IsTrue, IsSome, IfSome, IfOk, None, map, IfErr, OnOk, OnErr};
+ghost use Rattle.std.specs.Prelude.{◌≡◌, ◌⊎◌, ◌≤◌, ℕ, true, false, List, [], IsTrue, IsSome, IfSome, IfOk, None, map, length, IfErr, OnOk, OnErr};
 ghost use Rattle.rz_disk.specs.Meter.{Rises, faults};
 ghost use Rattle.rz_events.specs.declared.files.NodeSpec.{NodeSpec as ANode};
 ghost use Rattle.rz_events.specs.declared.export.Call.{Call as ACall};
@@ -9,6 +9,7 @@ ghost use Rattle.rz_journal.specs.Kept.{IsExportAfter};
 ghost use Rattle.rz_journal.specs.Opening.{IsJournalRefused};
 ghost use Rattle.rz_journal.specs.Seen.{calls_after};
 ghost use Rattle.rz_cells_slots.specs.Stands.{IsShut};
+ghost use Rattle.rz_journal.specs.Stands.{disk_bytes};
 ghost use Rattle.rz_events.specs.Borrowed.{call_of};
 ghost use Rattle.rz_metadata.specs.Enrolled.{loss_of};
 ghost use Rattle.rz_metadata.specs.Reopened.{AllTextsOf, IsAsItCame, MakesExport};
@@ -79,6 +80,9 @@ impl<D: Disk> Metadata<D> {
         // It stands for the calls for which each image of the disk stood as it came, and has the export after them.
         ensures calls { IfOk result (λ m. IsTrue D.tells → (calls : List ACall) → IsTextOf volume (D.text disk) calls → IsExportAfter (export_in m) calls) }
         ensures stands { IfOk result (λ m. IsTrue D.tells → (calls : List ACall) → AllTextsOf volume (D.image disk) calls → Stands D.tells D.meter D.image (faults (D.meter disk)) m calls) }
+
+        // No disk of another size opens, whether it tells what it holds or not.
+        ensures sized { IfOk result (λ m. length (D.text disk) ≡ disk_bytes) }
 
         // Each fault is the first that the text has.
         ensures refused { IfErr result (λ e. IsJournalRefused D.tells volume (D.text disk) e.1) }

@@ -12,6 +12,7 @@ ghost use Rattle.rz_node_model.specs.Afterwards.{after_answer};
 ghost use Rattle.rz_node_model.specs.States.{opened};
 ghost use Rattle.rz_node.specs.Calls.{Takes, IsRecord, IsNoStart, IsReading, IsSettled, IsUnread, IsUnused, IfStart, Counts};
 ghost use Rattle.rz_node.specs.DownDisk.{has_taken};
+ghost use Rattle.rz_node.specs.Fetched.{IsFetchOf};
 ghost use Rattle.rz_node.specs.HeldOnDisk.{IsHeldOnDisk};
 ghost use Rattle.rz_node.specs.Leaves.{Leaves};
 ghost use Rattle.rz_node.specs.Opens.{IfStarted, IfUnopened, TookIs, UnlessStarted};
@@ -60,6 +61,9 @@ pub fn answer_node<D: Disk>(
     ensures after { IsTrue D.tells → node.new.state ≡ after_answer ask.now result node.old.state }
     ensures after_call { IsNoStart ask.now → node.new.state ≡ after_answer ask.now result node.old.state }
     ensures geometry { node.new.geometry ≡ node.old.geometry }
+
+    // A record that is told is one of the layout, on any disk.
+    ensures fetched { IsFetchOf node.old.geometry.layout result }
 
     // How a start leaves the state of a node on any disk.
     ensures started { IfStart result (λ a. IfStarted a (node.new.state ≡ opened node.old.state.losses node.new.state.fence node.new.state.held)) }

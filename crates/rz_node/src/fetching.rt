@@ -3,6 +3,7 @@ ghost use Rattle.std.specs.Prelude.{◌≡◌, ◌≢◌, ◌≤◌, ℕ, Some, 
 ghost use Rattle.std.specs.Option.{option_map};
 ghost use Rattle.mj_angles.specs.Layout.{max_bins_of};
 ghost use Rattle.rz_disk.specs.Images.{Within};
+ghost use Rattle.rz_client_model.specs.Read.{IsFetched};
 ghost use Rattle.rz_node_model.specs.Answers.{IsNodeAnswer};
 ghost use Rattle.rz_node_model.specs.Afterwards.{after_answer};
 ghost use Rattle.rz_node_model.specs.Records.{record_of, held_of, found};
@@ -22,6 +23,9 @@ impl<D: Disk> Node<D> {
         requires room { max_bins_of self.old.geometry.layout ≤ length out.old }
         ensures answer { (position : ℕ) → IsNodeAnswer self.old.geometry.cells self.old.state (NodeAsk.Fetch key position stamp) (NodeAnswer.Fetch result) }
         ensures after { (position : ℕ) → self.new.state ≡ after_answer (NodeAsk.Fetch key position stamp) (NodeAnswer.Fetch result) self.old.state }
+
+        // What is told of a record is what one of the layout may have, on any disk: a node keeps no other head.
+        ensures fetched { IsFetched self.old.geometry.layout result }
         ensures bins { IfHeld result (λ told. IsTrue D.tells → IsFetchedFromDisk self.old.geometry self.old.state.fence (D.text self.old.disk) key told out.old out.new) }
         ensures unread { fetch_used result ≢ Some true → out.new ≡ out.old }
 

@@ -46,6 +46,9 @@ impl<D: Disk> Node<D> {
         ensures shows { IfOk result (λ n. IsTrue D.tells → (records : Records) → StandsFor geometry n.state.fence (D.text n.disk) records → IsHeldOnDisk n.state.held records) }
         ensures settled { IfOk result (λ n. Only (D.text n.disk) (D.image n.disk)) }
 
+        // No disk of another size opens, whether it tells what it holds or not.
+        ensures sized { IfOk result (λ n. length (D.text disk) ≡ disk_bytes geometry) }
+
         // Each fault is the first that the text has.
         ensures refused { IfErr result (λ e. IsTrue D.tells → Refuses geometry (D.text disk) e.1) }
 

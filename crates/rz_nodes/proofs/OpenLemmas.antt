@@ -104,10 +104,10 @@ module _ {D : Type 0} (tells : Bool) (meter : D → Meter) (text : D → List �
       → n.state ≡ opened losses n.state.fence n.state.held → n.geometry ≡ g
       → (IsTrue tells → (records : Records) × StandsFor g n.state.fence (text n.disk.disk) records)
       → (IsTrue tells → (records : Records) → StandsFor g n.state.fence (text n.disk.disk) records → IsHeldOnDisk n.state.held records)
-      → Only (text n.disk.disk) (image n.disk.disk) → text n.disk.disk ≡ text f.disk → Within (image f.disk) (image n.disk.disk)
+      → Only (text n.disk.disk) (image n.disk.disk) → text n.disk.disk ≡ text f.disk → length (text f.disk) ≡ disk_bytes g → Within (image f.disk) (image n.disk.disk)
       → (f.fuse ≡ None → n.disk.fuse ≡ None) → (f.planned < n.disk.planned → (m : ℕ) × (f.fuse ≡ Some m) × (m < k)) → faults (meter f.disk) ≤ faults (meter n.disk.disk)
       → IsNodeOpened tells meter text image layout ((node, losses), disk) (record { sid = node.sid; node = n; pick = 0 })
-  opened-one image losses k n state geometry stands shows settled told within unarmed only counted = record {
+  opened-one image losses k n state geometry stands shows settled told sized within unarmed only counted = record {
     number = refl;
     geometry = geometry ∙ same;
     state = state;
@@ -116,6 +116,7 @@ module _ {D : Type 0} (tells : Bool) (meter : D → Meter) (text : D → List �
     unplanned = unplanned n.disk k only;
     count = subst (λ (d : D). faults (meter d) ≤ faults (meter n.disk.disk)) below counted;
     same = told ∙ ap text below;
+    size = subst (λ (x : Geometry). length (text disk) ≡ disk_bytes x) same (subst (λ (d : D). length (text d) ≡ disk_bytes g) below sized);
     images = subst (λ (d : D). Within (image d) (image n.disk.disk)) below within;
     stands = subst (λ (x : Geometry). IsTrue tells → (records : Records) × StandsFor x n.state.fence (text n.disk.disk) records) same stands;
     shows = subst (λ (x : Geometry). IsTrue tells → (records : Records) → StandsFor x n.state.fence (text n.disk.disk) records → IsHeldOnDisk n.state.held records) same shows;

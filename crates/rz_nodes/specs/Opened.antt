@@ -21,7 +21,8 @@ use Rattle.rz_nodes.specs.declared.refusal.OpenRefusal.{OpenRefusal}
 use Rattle.rz_nodes.specs.declared.refusal.OpenRefusal.TheVariants as refusal
 
 -- A disk was opened for a node that lost so many disks: what the node holds is what the disk's text stands for. The disk has the
--- text that it came with, and that text is its one image. It is not armed, and its count of faults did not fall.
+-- text that it came with, which has the right size, and that text is its one image. It is not armed, and its count of faults did not
+-- fall.
 pub record IsNodeOpened {D : Type 0} (tells : Bool) (meter : D → Meter) (text : D → List ℕ) (image : D → List ℕ → Type 0) (layout : Layout) (handed : (NodeSpec × ℕ) × D) (s : Server (UnderFuse D)) : Type 0 where
   pub number : s.sid ≡ handed.0.0.sid
   pub geometry : s.node.geometry ≡ geometry_of layout handed.0.0
@@ -31,6 +32,7 @@ pub record IsNodeOpened {D : Type 0} (tells : Bool) (meter : D → Meter) (text 
   pub unplanned : s.node.disk.planned ≡ 0
   pub count : faults (meter handed.1) ≤ faults (meter s.node.disk.disk)
   pub same : text s.node.disk.disk ≡ text handed.1
+  pub size : length (text handed.1) ≡ disk_bytes (geometry_of layout handed.0.0)
   pub images : Within (image handed.1) (image s.node.disk.disk)
   pub stands : IsTrue tells → (records : Records) × StandsFor (geometry_of layout handed.0.0) s.node.state.fence (text s.node.disk.disk) records
   pub shows : IsTrue tells → (records : Records) → StandsFor (geometry_of layout handed.0.0) s.node.state.fence (text s.node.disk.disk) records → IsHeldOnDisk s.node.state.held records

@@ -1,9 +1,9 @@
-use Rattle.std.proofs.Common.{◌≡◌, ◌∷◌, ◌∙◌, true, false, refl, sym}
+use Rattle.std.proofs.Common.{◌≡◌, ◌∷◌, ◌∙◌, refl, sym}
 use Rattle.rz_cells_slots.specs.Opening.{opening_calls}
 use Rattle.rz_node_model.specs.NodeEvents.{node_event}
 use Rattle.rz_driver_nodes.proofs.Fits.{told-so}
 use Rattle.rz_driver_nodes.proofs.MeterLemmas.{call-goes, call-lasts, noted-goes}
-use Rattle.rz_driver_nodes.proofs.MessageCoherence.{answers-to, eventless, fits-always, keeps-through, not-called}
+use Rattle.rz_driver_nodes.proofs.MessageCoherence.{answers-to, eventless, keeps-through, not-called}
 use Rattle.rz_driver_nodes.proofs.CoherenceLemmas.{on-err}
 use Rattle.rz_driver_nodes.proofs.messages.through.Goals as goal
 
@@ -11,7 +11,7 @@ pub tell-requires-clause-answers : goal.tell-requires-clause-answers
 tell-requires-clause-answers g c =
     let node = c.args.node.now in
     let s = c.in_ok-answer.ensures in
-    answers-to c.args.layout node.geometry.cells node.state c.args.ask c.in_ok-answer.answer s.actor s.served.given_is (c.is_fetch_of.ensures.0 c.if-not-is_fetch_of.false)
+    answers-to c.args.layout node.geometry.cells node.state c.args.ask c.in_ok-answer.answer s.actor s.served.given_is s.fetched
 
 pub returns-clause-ok : goal.returns-clause-ok
 returns-clause-ok g c =
@@ -44,11 +44,6 @@ returns-clause-counted g c =
     let s = c.in_ok-answer.ensures in
     call-lasts (opening_calls c.args.node.now.geometry) c.args.node.now.geometry.cells c.args.ask c.in_ok-answer.answer c.args.node.now.state (g.D.Disk.meter c.args.node.now.disk) (g.D.Disk.meter c.serve.new.node.disk) s.no_start s.served.given_is s.counts
 
-pub returns-then-not-is_fetch_of-clause-counted : goal.returns-then-not-is_fetch_of-clause-counted
-returns-then-not-is_fetch_of-clause-counted g c =
-    let s = c.in_ok-answer.ensures in
-    call-lasts (opening_calls c.args.node.now.geometry) c.args.node.now.geometry.cells c.args.ask c.in_ok-answer.answer c.args.node.now.state (g.D.Disk.meter c.args.node.now.disk) (g.D.Disk.meter c.serve.new.node.disk) s.no_start s.served.given_is s.counts
-
 pub returns-in_default-clause-counted : goal.returns-in_default-clause-counted
 returns-in_default-clause-counted g c =
     let s = c.in_ok-answer.ensures in
@@ -63,13 +58,6 @@ returns-clause-coherent g c =
     let n : c.note.new.self.events ≡ c.in-Some.event ∷ h = c.note.ensures.noted in (λ told.
     keeps-through g.D.Disk.text g.D.Disk.image (c.heard.ensures told) c.args.by c.args.number c.args.machine.now c.args.ask c.in_ok-answer.answer c.args.node.now c.serve.new.node c.serve.new.bins h
     (s.message told c.args.number c.requires.asked) c.serve.ensures.geometry s.served.after c.in-Some.event (sym c.node_event.ensures ∙ c.in-Some.is) c.tell.new.machine c.tell.ensures c.note.new.self.events n)
-
-pub returns-then-not-is_fetch_of-clause-unchanged : goal.returns-then-not-is_fetch_of-clause-unchanged
-returns-then-not-is_fetch_of-clause-unchanged g c = λ told.
-    let s = c.in_ok-answer.ensures in
-    fits-always g.D.Disk.text g.D.Disk.image (c.heard.ensures told) c.args.by c.args.number c.args.machine.now c.args.ask c.in_ok-answer.answer c.args.node.now c.serve.new.node c.serve.new.bins c.args.log.now.events
-    (s.message told c.args.number c.requires.asked) c.serve.ensures.geometry s.served.after c.args.layout c.requires.machine
-    (λ fits. let never : false ≡ true = sym c.if-not-is_fetch_of.true ∙ c.is_fetch_of.ensures.1 fits in cc)
 
 pub returns-in_default-clause-unchanged : goal.returns-in_default-clause-unchanged
 returns-in_default-clause-unchanged g c = λ told.

@@ -10,7 +10,7 @@ returns-in-Ok-clause-made g c =
     (record { layout = c.args.layout; bsize = c.bsize.result; node = c.args.node.sid; cells = c.args.node.cells }) c.new.result
     (ap (λ b. record { layout = c.args.layout; bsize = b; node = c.args.node.sid; cells = c.args.node.cells }) c.bsize.ensures.value) c.new.ensures g.D.Disk.image c.args.losses
     (opening_calls (record { layout = c.args.layout; bsize = c.bsize.result; node = c.args.node.sid; cells = c.args.node.cells }))
-    c.in-Ok.opened e.state e.geometry e.stands e.shows e.settled e.text e.crash e.meter.took.unarmed e.meter.took.planned_only e.meter.lasts.own
+    c.in-Ok.opened e.state e.geometry e.stands e.shows e.settled e.text e.sized e.crash e.meter.took.unarmed e.meter.took.planned_only e.meter.lasts.own
 
 pub returns-in-Err-clause-fault : goal.returns-in-Err-clause-fault
 returns-in-Err-clause-fault g c =
