@@ -1,5 +1,5 @@
 -- What was read is what the disk has.
-use Rattle.std.proofs.Common.{◌≡◌, ◌⊎◌, ℕ, ◌<◌, ◌≤◌, List, length, sym, subst, ap}
+use Rattle.std.proofs.Common.{◌≡◌, ◌⊎◌, ℕ, ◌<◌, ◌≤◌, List, length, sym, subst, ap, ◌∙◌}
 use Rattle.rz_journal.specs.declared.rebuilding.JournalFault.{JournalFault}
 use Rattle.rz_journal.specs.declared.rebuilding.JournalFault.TheVariants.{NoMemory, DiskFault}
 use Rattle.rz_journal.specs.Opening.{MakeExport, IsReopened, StopsAtEntry, IsJournalRefused, fault_of}
@@ -39,6 +39,9 @@ invariant_of-result g c = λ _.
 pub returns-in-Ok-rebuild-clause-volume : goal.returns-in-Ok-rebuild-clause-volume
 returns-in-Ok-rebuild-clause-volume g c =
     rebuilt_volume c.args.volume c.bytes.result.now c.in-Ok-rebuild.used c.in-Ok-rebuild.export c.in-Ok-rebuild.ensures.rebuilt
+
+pub returns-in-Ok-rebuild-clause-sized : goal.returns-in-Ok-rebuild-clause-sized
+returns-in-Ok-rebuild-clause-sized g c = ap (λ (t : List ℕ). length t) (sym c.in-Ok.ensures.text) ∙ c.in-Ok.ensures.open.size
 
 pub returns-in-Ok-rebuild-clause-calls : goal.returns-in-Ok-rebuild-clause-calls
 returns-in-Ok-rebuild-clause-calls g c = λ told calls is.

@@ -3,7 +3,7 @@ use Rattle.std.proofs.Common.{◌≡◌, ◌≤◌, List, length, Option, Some, 
 use Rattle.std.proofs.lemmas.List.{length-take-le}
 use Rattle.std.proofs.lemmas.Slice.{drop-append-drop}
 use Rattle.mj_angles.specs.declared.layout.Layout.{Layout}
-use Rattle.mj_angles.specs.Layout.{max_bins_of}
+use Rattle.mj_angles.specs.Layout.{block_bytes_of, max_bins_of}
 use Rattle.rz_events.specs.declared.keys.Key.{Key}
 use Rattle.rz_events.specs.declared.records.Head.{Head}
 use Rattle.rz_events.specs.declared.records.Held.{Held}
@@ -57,6 +57,16 @@ returns-in-Ok-clause-bins g c told records stands =
     gives-bins records c.args.key c.in-Some.head r.0 c.in-Ok.field-0 c.bins_at-count.result c.args.out.now c.bins_into.new.out room c.bins_into.auto.out c.bins_at-count.ensures.value
     (c.in-Ok.ensures.count c.in-Some.head c.in-Some.ensures.there.is) c.in-Some.ensures.there.named
     (ap (λ (k : Key). records k c.in-Some.head.stamp) (sym r.2) ∙ ap (records r.0.head.key) (ap (λ (t : Held). t.stamp) (sym r.3)) ∙ stood.2.only c.in-Some.cell r.0 r.1) r.3 (c.in-Ok.ensures.bins told stood.0 r.0 stood.1 r.1)
+
+-- the head that the node keeps is one of the layout
+pub returns-in-Ok-clause-fetched : goal.returns-in-Ok-clause-fetched
+returns-in-Ok-clause-fetched g c =
+    let is_open = ready-up c.self.inside.phase _ _ c.in-Up.is c.self.invariant.ready in
+    let head = c.in-Some.head in
+    let is = c.in-Some.ensures.there.is in
+    let layout : head.layout ≡ c.args.self.now.geometry.layout = is_open.layout c.in-Some.cell head is ∙ ap (λ (y : Geometry). y.layout) (geometry-same _ _ c.self.view_is) in
+    let valid = is_open.valid c.in-Some.cell head is in
+    (valid.older, subst (λ (y : Layout). head.length ≤ block_bytes_of y) layout valid.fits)
 
 pub returns-in-Ok-clause-rest : goal.returns-in-Ok-clause-rest
 returns-in-Ok-clause-rest g c =
