@@ -46,7 +46,7 @@ fn links(alloc: Global) -> Result<Vec<PlainLink>, AllocError>
 
 /// The status of a play, and its disks.
 #[derive(Drop)]
-struct Played<D: Disk> {
+struct PlayedDisks<D: Disk> {
     status: u8,
     disks: Vec<D>,
 }
@@ -59,11 +59,11 @@ fn play_on_threads<T: Threads + Wait + Sync, D: Disk + Send>(
     words: &[String],
     disks: Vec<D>,
     honest: bool,
-) -> Played<D>
+) -> PlayedDisks<D>
     requires tells { IsTrue honest → IsTrue D.tells }
 {
     let Ok(links) = links(rt.alloc()) else {
-        return Played {
+        return PlayedDisks {
             status: Status::NO_MEMORY,
             disks,
         };
@@ -80,14 +80,14 @@ fn play_on_threads<T: Threads + Wait + Sync, D: Disk + Send>(
         links,
         honest,
     );
-    Played {
+    PlayedDisks {
         status: ran.status,
         disks: ran.disks,
     }
 }
 
 /// Plays in turns what the words ask for.
-fn play_in_turns<D: Disk>(rt: &HostRuntime, words: &[String], mut disks: Vec<D>) -> Played<D> {
+fn play_in_turns<D: Disk>(rt: &HostRuntime, words: &[String], mut disks: Vec<D>) -> PlayedDisks<D> {
     let mut input = Recorded::new(rt.alloc(), StdSource::new(rt.reader()));
     let mut output = StdSink::new(io::writer(rt));
     let mut link = PlainLink::new();
@@ -102,7 +102,7 @@ fn play_in_turns<D: Disk>(rt: &HostRuntime, words: &[String], mut disks: Vec<D>)
     if played.status == Status::DONE && played.log.is_empty() && input.has_operations(rt.alloc()) {
         tell_idle(rt);
     }
-    Played {
+    PlayedDisks {
         status: played.status,
         disks,
     }
@@ -116,7 +116,7 @@ fn play<T: Threads + Wait + Sync, D: Disk + Send>(
     command: Command,
     disks: Vec<D>,
     honest: bool,
-) -> Played<D>
+) -> PlayedDisks<D>
     requires tells { IsTrue honest → IsTrue D.tells }
 {
     match command {

@@ -12,7 +12,7 @@ use Rattle.rz_events.specs.Events.{word_of}
 use Rattle.rz_chronicle.specs.declared.told.Told.{Told}
 use Rattle.rz_chronicle.specs.Keys.{count_at, word_key, key_at, rows, IsInRow}
 use Rattle.rz_chronicle.specs.Tokens.{mark}
-use Rattle.rz_chronicle.specs.Rules.{AreCounted, IsMove, Adds, Looks, AreBookWords, named}
+use Rattle.rz_chronicle.specs.Rules.{AreCellsCounted, IsMove, Adds, Looks, AreBookWords, named}
 use Rattle.rz_chronicle.proofs.Keys.{count-same, count-other, touches-own, touches-other}
 
 pub eq_or : (i k : ℕ) → mathlib.Core.Logic.◌⊎◌ (i ≡ k) (i ≢ k)
@@ -36,8 +36,8 @@ words_more b sids ws w is are k d lt =
     ]
 
 -- the event is added
-kept_more : (cs : List Cell) (log : List Event) (e : Event) (n : ℕ) → IsInRow e → AreCounted cs log → n ≡ count_at (word_key (word_of e)) log + 1
-    → AreCounted (set cs (word_key (word_of e)) (n, true)) (log ++ e ∷ [])
+kept_more : (cs : List Cell) (log : List Event) (e : Event) (n : ℕ) → IsInRow e → AreCellsCounted cs log → n ≡ count_at (word_key (word_of e)) log + 1
+    → AreCellsCounted (set cs (word_key (word_of e)) (n, true)) (log ++ e ∷ [])
 kept_more cs log e n low kept is = let k : ℕ = word_key (word_of e) in
     record {
       len = length-set cs k (n, true) ∙ kept.len;
@@ -49,7 +49,7 @@ kept_more cs log e n low kept is = let k : ℕ = word_key (word_of e) in
     }
 
 -- the word stays
-kept_same : (cs : List Cell) (log : List Event) (v : Word) (n : ℕ) → word_key v < rows → AreCounted cs log → n ≡ count_at (word_key v) log → AreCounted (set cs (word_key v) (n, true)) (log ++ [])
+kept_same : (cs : List Cell) (log : List Event) (v : Word) (n : ℕ) → word_key v < rows → AreCellsCounted cs log → n ≡ count_at (word_key v) log → AreCellsCounted (set cs (word_key v) (n, true)) (log ++ [])
 kept_same cs log v n low kept is = let k : ℕ = word_key v in
     record {
       len = length-set cs k (n, true) ∙ kept.len;
@@ -64,9 +64,9 @@ abbrev shown : List Event → List Event
 shown log = log
 
 abbrev Does : List Event → Event → ℕ → List Cell → List Event → Type 0
-Does v e old = let k : ℕ = word_key (word_of e) in Goes AreCounted shown (IsMove e) k (v, (no_nib, None)) (λ n. either (n == old) (old + 1) n) (Adds (step k old (old + 1) e) (v, (no_nib, None)))
+Does v e old = let k : ℕ = word_key (word_of e) in Goes AreCellsCounted shown (IsMove e) k (v, (no_nib, None)) (λ n. either (n == old) (old + 1) n) (Adds (step k old (old + 1) e) (v, (no_nib, None)))
 
-does : (v : List Event) (e : Event) (old : ℕ) (cs : List Cell) (log : List Event) → IsInRow e → AreCounted cs log → IsPrefix v log
+does : (v : List Event) (e : Event) (old : ℕ) (cs : List Cell) (log : List Event) → IsInRow e → AreCellsCounted cs log → IsPrefix v log
     → (b : Bool) → ((cell cs (word_key (word_of e))).0 == old) ≡ b → Does v e old cs log
 does v e old cs log low kept pre true is = let k : ℕ = word_key (word_of e) in
     let n : (cell cs k).0 ≡ count_at k log = ap (λ (c : Cell). c.0) (kept.each (word_of e) low) in
@@ -94,15 +94,15 @@ does v e old cs log low kept pre false is = let k : ℕ = word_key (word_of e) i
 
 -- whatever the book is when the word changes
 pub adds_moves : (v : List Event) (e : Event) (old : ℕ) → IsInRow e → (k : ℕ) → k ≡ word_key (word_of e)
-    → Moves AreCounted shown (IsMove e) k (v, (no_nib, None)) (λ n. either (n == old) (old + 1) n) (Adds (step k old (old + 1) e) (v, (no_nib, None)))
-adds_moves v e old low k at = let P : ℕ → Type 0 = λ i. Moves AreCounted shown (IsMove e) i (v, (no_nib, None)) (λ n. either (n == old) (old + 1) n) (Adds (step i old (old + 1) e) (v, (no_nib, None))) in
+    → Moves AreCellsCounted shown (IsMove e) k (v, (no_nib, None)) (λ n. either (n == old) (old + 1) n) (Adds (step k old (old + 1) e) (v, (no_nib, None)))
+adds_moves v e old low k at = let P : ℕ → Type 0 = λ i. Moves AreCellsCounted shown (IsMove e) i (v, (no_nib, None)) (λ n. either (n == old) (old + 1) n) (Adds (step i old (old + 1) e) (v, (no_nib, None))) in
     subst P (sym at) (λ cs log kept pre away.
     (omega (arith, kept.len, low), ap (λ (c : Cell). c.1) (kept.each (word_of e) low), does v e old cs log low kept pre ((cell cs (word_key (word_of e))).0 == old) refl))
 
 -- a load changes nothing
 pub looks_moves : (v : List Event) (w : Word) → word_key w < rows → (k : ℕ) → k ≡ word_key w
-    → Moves AreCounted shown (IsMove mark) k (v, (no_nib, None)) (λ n. n) (Looks (step k 0 0 mark) (v, (no_nib, None)))
-looks_moves v w low k at = let P : ℕ → Type 0 = λ i. Moves AreCounted shown (IsMove mark) i (v, (no_nib, None)) (λ n. n) (Looks (step i 0 0 mark) (v, (no_nib, None))) in
+    → Moves AreCellsCounted shown (IsMove mark) k (v, (no_nib, None)) (λ n. n) (Looks (step k 0 0 mark) (v, (no_nib, None)))
+looks_moves v w low k at = let P : ℕ → Type 0 = λ i. Moves AreCellsCounted shown (IsMove mark) i (v, (no_nib, None)) (λ n. n) (Looks (step i 0 0 mark) (v, (no_nib, None))) in
     subst P (sym at) (λ cs log kept pre away. let j : ℕ = word_key w in
     let n : (cell cs j).0 ≡ count_at j log = ap (λ (c : Cell). c.0) (kept.each w low) in
     let t : Told = record { marker = record {}; won = false; before = log ++ []; log = log ++ [] } in (

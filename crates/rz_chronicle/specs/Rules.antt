@@ -9,7 +9,7 @@ use Rattle.rz_chronicle.specs.declared.told.Told.{Told}
 use Rattle.rz_chronicle.specs.Keys.{count_at, word_key, key_at, rows, IsInRow}
 
 -- each word is the number of its events
-pub record AreCounted (cells : List Cell) (log : List Event) : Type 0 where
+pub record AreCellsCounted (cells : List Cell) (log : List Event) : Type 0 where
   pub len : length cells ≡ rows
   pub each : (w : Word) → word_key w < rows → cell cells (word_key w) ≡ (count_at (word_key w) log, true)
 

@@ -18,9 +18,9 @@ pub struct Law;
 impl Rule<Event, Told> for Law {
     ghost use Rattle.std.specs.Prelude.{[]};
     ghost use Rattle.rz_chronicle.specs.Tokens.{kept};
-    ghost use Rattle.rz_chronicle.specs.Rules.{AreCounted, IsMove};
+    ghost use Rattle.rz_chronicle.specs.Rules.{AreCellsCounted, IsMove};
 
-    ghost holds = { λ cells log. AreCounted cells log };
+    ghost holds = { λ cells log. AreCellsCounted cells log };
 
     ghost first = { [] };
 

@@ -5,7 +5,7 @@ use Rattle.rz_events.specs.declared.events.Event.{Event}
 use Rattle.rz_events.specs.Events.{by_of}
 use Rattle.rz_show.specs.declared.opened.Opened.{Opened}
 use Rattle.rz_show.specs.Opened.{positions, positions_after}
-use Rattle.rz_show.specs.Known.{Knows, Notes}
+use Rattle.rz_show.specs.Known.{Knows, NotesPositions}
 use Rattle.rz_show.specs.Text.{line, lines}
 
 front-more : (log : List Event) (i : ℕ) (x : Event) → i < length log → x ≡ get_or log i x → reverse (take (i + 1) log) ≡ x ∷ reverse (take i log)
@@ -16,7 +16,7 @@ rest-more : (log : List Event) (i : ℕ) (x : Event) → i < length log → x �
 rest-more log i x l e = drop_more log i x l ∙ ap (λ (y : Event). y ∷ drop (i + 1) log) (sym e)
 
 pub knows-more : (old new : Opened) (log : List Event) (i : ℕ) (x : Event) → i < length log → x ≡ get_or log i x
-    → Knows old (reverse (take i log)) → Notes old new x → Knows new (reverse (take (i + 1) log))
+    → Knows old (reverse (take i log)) → NotesPositions old new x → Knows new (reverse (take (i + 1) log))
 knows-more old new log i x l e before note = λ actor.
     note actor ∙ ap (positions_after x actor) (before actor) ∙ sym (ap (positions actor) (front-more log i x l e))
 

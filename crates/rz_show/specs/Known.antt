@@ -30,5 +30,5 @@ abbrev pub Sets : Opened → Opened → Actor → ℕ → Type 0
 Sets old new by count = (actor : Actor) → known new actor ≡ (if same_actor actor by then count else known old actor)
 
 -- an event was added to what it knows
-abbrev pub Notes : Opened → Opened → Event → Type 0
-Notes old new x = (actor : Actor) → known new actor ≡ positions_after x actor (known old actor)
+abbrev pub NotesPositions : Opened → Opened → Event → Type 0
+NotesPositions old new x = (actor : Actor) → known new actor ≡ positions_after x actor (known old actor)

@@ -17,7 +17,7 @@ pub struct Opened {
 }
 
 impl Opened {
-    ghost use Rattle.rz_show.specs.Known.{known, KnowsNone, Notes, Sets};
+    ghost use Rattle.rz_show.specs.Known.{known, KnowsNone, NotesPositions, Sets};
 
     /// No actor opened a file.
     pub fn none() -> Opened
@@ -56,7 +56,7 @@ impl Opened {
 
     /// Takes up what an event tells.
     pub fn note(&mut self, event: &Event)
-        ensures { Notes self.old self.new event.now }
+        ensures { NotesPositions self.old self.new event.now }
     {
         if let Event::Meta { by, call, reply } = event {
             if let Some(count) = places_opened(call, reply) {
