@@ -95,9 +95,9 @@ fn play_request<D: Disk, L: Link, O: Sink>(
             *disks = back;
             Played { status, log }
         }
-        Err((back, why)) => {
+        Err((back, unmade)) => {
             *disks = back;
-            let status = stop(alloc, &why, output);
+            let status = stop(alloc, &unmade, output);
             unplayed(alloc, status)
         }
     }

@@ -473,6 +473,6 @@ returns-in-Err g c =
       new = g.O.Sink.faults c.stop-status.new.output;
     } in
     let lent : c.replace-lent.result.items ≡ c.args.disks.now.items = rw c.replace-lent.ensures.value refl in
-    let unmade = subst (λ (xs : List g.row.D.Denot). IsUnmade g.D.Disk.tells g.D.Disk.text g.D.Disk.meter g.D.Disk.image c.args.request.now.wish c.args.request.now.script.volume xs c.in-Err.back.items c.in-Err.why) lent c.in-Err.ensures in
+    let back_so = subst (λ (xs : List g.row.D.Denot). IsUnmade g.D.Disk.tells g.D.Disk.text g.D.Disk.meter g.D.Disk.image c.args.request.now.wish c.args.request.now.script.volume xs c.in-Err.back.items c.in-Err.unmade) lent c.in-Err.ensures in
     not-made g.D.Disk.tells g.D.Disk.text g.D.Disk.meter g.D.Disk.image c.args.request.now c.args.disks.now.items c.in-Err.back.items (g.L.Link.lost c.args.link.now - g.L.Link.lost c.args.link.now) end_sink
-    c.unplayed.result.status (reverse c.unplayed.result.log.items) (ap reverse c.unplayed.ensures.log) c.in-Err.why c.requires unmade (rw c.unplayed.ensures.status c.stop-status.ensures)
+    c.unplayed.result.status (reverse c.unplayed.result.log.items) (ap reverse c.unplayed.ensures.log) c.in-Err.unmade c.requires back_so (rw c.unplayed.ensures.status c.stop-status.ensures)
