@@ -32,6 +32,7 @@ use Rattle.rz_core.specs.NodeRows.{cells_of, IsNodeOf}
 use Rattle.rz_export_model.specs.Export.{Export, new_export}
 use Rattle.rz_journal.specs.JournalText.{after_all}
 use Rattle.rz_journal.specs.Opening.{IsJournalRefused}
+use Rattle.rz_journal.specs.Stands.{disk_bytes as journal_bytes}
 use Rattle.rz_journal.specs.declared.rebuilding.JournalFault.{JournalFault}
 use Rattle.rz_journal.specs.declared.rebuilding.JournalFault.TheVariants as fault
 use Rattle.rz_metadata.specs.declared.metadata.Metadata.{Metadata}
@@ -59,7 +60,7 @@ use Rattle.rz_driver_nodes.specs.Meters.{AreMetered, GoesWith, OfEach, faults_at
 use Rattle.rz_driver_nodes.specs.Servers.{state_in, numbers_of, IsServer}
 use Rattle.rz_driver.specs.declared.driver.Driver.{Driver}
 use Rattle.rz_driver_actors.specs.declared.actor_agenda.Agenda.{Agenda}
-use Rattle.rz_driver.specs.Continued.{journal_refusal, losses_of, AreLeft, IsCauseAgain, IsJournalCause, IsNodeCause, IsOpenedAgain, IsOpenedOver, IsRefusedOver, IsUnopened}
+use Rattle.rz_driver.specs.Continued.{journal_refusal, losses_of, AllOpen, AreLeft, IsCauseAgain, IsJournalCause, IsNodeCause, IsOpenedAgain, IsOpenedOver, IsRefusedOver, IsUnopened, OpensForNode}
 use Rattle.rz_driver.specs.Endings.{StandsForLog}
 use Rattle.rz_driver.specs.Journals.{KeepsLog, journal_place, StandsForJournal}
 use Rattle.rz_driver.specs.Coherence.{IsCoherent, KnowsLengths}
@@ -101,6 +102,21 @@ module _ {D : Type 0} (tells : Bool) (meter : D → Meter) (text : D → List �
       cells = ap (λ (g : Geometry). g.cells) all.0.geometry ∙ sym cells.0 ∙ ap (cells_of v) (sym all.0.number);
     },
     opened-servers nodes disks row (omega (arith, count)) all.1 cells.1,
+  )
+
+  -- each disk opens
+  pub opened-open : (nodes : List NodeSpec) (disks : List D) (row : List (Server (UnderFuse D))) → length disks ≡ length nodes → Opened nodes disks row → AllZip (OpensForNode tells text v.layout) nodes disks
+  opened-open [] [] row count all = tt
+  opened-open [] (d ∷ disks) row count all = absurd (omega (arith, count))
+  opened-open (n ∷ nodes) [] row count all = absurd (omega (arith, count))
+  opened-open (n ∷ nodes) (d ∷ disks) [] count all = absurd all
+  opened-open (n ∷ nodes) (d ∷ disks) (s ∷ row) count all = (
+    (
+      all.0.size,
+      λ told. let stands = all.0.stands told in
+          (s.node.state.fence, stands.0, subst (λ (t : List ℕ). StandsFor (geometry_of v.layout n) s.node.state.fence t stands.0) all.0.same stands.1),
+    ),
+    opened-open nodes disks row (omega (arith, count)) all.1,
   )
 
   -- a disk that is not armed goes with an empty word
@@ -274,6 +290,15 @@ module _ {D : Type 0} {G : Ghosts D} (v : Volume) (rules : IsVolume v) (export :
     export = λ told. subst (λ (m : Metadata D). MakesExport v (G.text journal) (export_in m)) (sym over.export_is) (made told);
     made = subst (λ (m : Metadata D). AreOpened G.tells G.meter G.text G.image v.layout specs (losses_of (export_in m) v) nodes row) (sym over.export_is) over.made;
     world = over-world;
+  }
+
+  pub over-open : (disks : List D) (journal : D) → disks ≡ nodes ++ journal ∷ [] → length (G.text journal) ≡ journal_bytes → (IsTrue G.tells → MakesExport v (G.text journal) (export_in export)) → AllOpen G.tells G.text v disks
+  over-open disks journal are sized made = record {
+    nodes = nodes;
+    journal = journal;
+    disks_are = are;
+    each = opened-open G.tells G.meter G.text G.image v f specs nodes row count over.made;
+    last = (sized, λ told. (export_in export, made told));
   }
 
   module _ (disks : List D) (journal : D) (are : disks ≡ nodes ++ journal ∷ []) where

@@ -14,6 +14,9 @@ use Rattle.rz_events.specs.declared.keys.Actor.{Actor}
 use Rattle.rz_events.specs.declared.keys.Actor.TheVariants.{Client, Rebuilder, Admin}
 use Rattle.rz_events.specs.declared.events.Event.{Event}
 use Rattle.rz_metadata.specs.Stands.{IsJournalOpen}
+use Rattle.rz_link.specs.declared.Sent.{Sent}
+use Rattle.rz_operation.specs.Machine.{work_in}
+use Rattle.rz_operation_model.specs.Ask.{ask_of}
 use Rattle.rz_play.specs.World.{World, Agenda as APlayer, at_work}
 use Rattle.rz_play.specs.Turns.{IsTurn}
 use Rattle.rz_play.specs.Free.{IsTurnOver}
@@ -30,6 +33,7 @@ use Rattle.rz_driver.specs.Worlds.{place_of, agenda_in, world, world_of, AreLock
 use Rattle.rz_driver_nodes.proofs.Rows.{all-set, all-at}
 use Rattle.rz_driver.proofs.ReadyLemmas.{servers-after, numbers-after, agenda-after, locks-after}
 use Rattle.rz_player.specs.Behind.{behind}
+use Rattle.rz_player.specs.Messages.{IsAskSent, IsTurnSent}
 use Rattle.rz_driver.proofs.TurnLemmas.{AreTexts, IsGood, turn-is, free-turn-is}
 use Rattle.rz_driver.proofs.WorldLemmas.{client-place, rebuilder-place, agenda-here}
 
@@ -106,3 +110,13 @@ pub turned-told : {D : Type 0} {G : Ghosts D} (by : Actor) (place : ℕ) (d : Dr
 turned-told {G = G} by place d q log a0 a b ready at here low taken fits kept events acts earlier texts good told =
     subst (λ (t : Bool). IsTurnOver d.volume by t (behind earlier (world_of d)) (behind earlier (world q (set d.agendas.items place b) (d.turns + 1)))) told
     (turned by place d q log a0 a b ready at here low taken fits kept events acts earlier texts good d refl)
+
+-- and the link was asked what the actor's message asks
+pub turn-sent : {D : Type 0} {G : Ghosts D} {L : Type 0} (says : L → ℕ → Sent → L → Type 0) (by : Actor) (place : ℕ) (d : Driver D G) (log : Logged) (a0 a : Agenda) → place_of by ≡ Some place → slice_get d.agendas.items place ≡ Some a0
+    → agenda_of a ≡ at_work (agenda_of a0) → log.events ≡ d.shared.log.events → (link link' : L) (next : World) → IsAskSent says (ask_of d.volume.layout (work_in a.machine)) a.miss by link link' log.events next.log
+    → (f : Driver D G) → d ≡ f → IsTurnSent says f.volume by link link' (world_of f) next
+turn-sent {D = D} {G = G} says by place d log a0 a at here taken events link link' next sent f is =
+    let same : agenda_of a ≡ at_work (agenda_in d.agendas.items by) = taken ∙ ap at_work (sym (agenda-here d.agendas.items by place a0 at here)) in
+    subst (λ (x : Driver D G). IsTurnSent says x.volume by link link' (world_of x) next) is
+    (subst (λ (s : APlayer). IsAskSent says (ask_of d.volume.layout s.work) s.miss by link link' d.shared.log.events next.log) same
+    (subst (λ (h : List Event). IsAskSent says (ask_of d.volume.layout (work_in a.machine)) a.miss by link link' h next.log) events sent))

@@ -1,7 +1,8 @@
 -- A driver that goes on over the disks which earlier runs left.
 use Rattle.std.specs.Prelude.{ℕ, ◌≡◌, ◌≢◌, ◌⊎◌, Bool, true, IsTrue, List, [], ◌∷◌, ◌++◌, map, length, Option, Some, option_to_list}
-use Rattle.std.specs.List.{AllByRecursion}
+use Rattle.std.specs.List.{AllByRecursion, AllZip}
 use Rattle.std.specs.FinMap as maps
+use Rattle.mj_angles.specs.declared.layout.Layout.{Layout}
 use Rattle.mj_angles.specs.Layout.{max_bins_of}
 use Rattle.rz_disk.specs.Meter.{Meter, Rises, faults}
 use Rattle.rz_disk.specs.declared.disk.Disk.{Ghosts}
@@ -10,8 +11,12 @@ use Rattle.rz_events.specs.declared.files.NodeSpec.{NodeSpec}
 use Rattle.rz_events.specs.declared.export.Call.{Call}
 use Rattle.rz_events.specs.declared.events.Event.{Event}
 use Rattle.rz_core.specs.History.{facts}
+use Rattle.rz_cells_slots.specs.Held.{Records}
+use Rattle.rz_cells_slots.specs.Shape.{disk_bytes}
+use Rattle.rz_cells_slots.specs.Stands.{StandsFor}
 use Rattle.rz_export_model.specs.Export.{Export}
 use Rattle.rz_journal.specs.Opening.{IsJournalRefused}
+use Rattle.rz_journal.specs.Stands.{disk_bytes as journal_bytes}
 use Rattle.rz_journal.specs.declared.rebuilding.JournalFault.{JournalFault}
 use Rattle.rz_journal.specs.declared.rebuilding.JournalFault.TheVariants as fault
 use Rattle.rz_metadata.specs.declared.metadata.Metadata.{Metadata}
@@ -19,6 +24,7 @@ use Rattle.rz_metadata.specs.Enrolled.{loss_of}
 use Rattle.rz_metadata.specs.Reopened.{MakesExport, journal_fault_number}
 use Rattle.rz_metadata.specs.Stands.{disk_of, export_in, refusal_of}
 use Rattle.rz_metadata.specs.declared.journaled.JournalRefusal.TheVariants.{Failed}
+use Rattle.rz_nodes.specs.Formatted.{geometry_of}
 use Rattle.rz_nodes.specs.declared.refusal.OpenRefusal.{OpenRefusal}
 use Rattle.rz_nodes.specs.declared.refusal.OpenRefusal.TheVariants as refusal
 use Rattle.rz_nodes.specs.Opened.{AreDisksBack, AreOpened, IsCause}
@@ -49,6 +55,23 @@ abbrev pub EndsWhole : {D : Type 0} {G : Ghosts D} → Driver D G → (refused :
 EndsWhole d refused b = HoldsBetweenTurns d b ⊎ (LeavesAtEnd d refused b × (refusal_of d.shared.export ≢ Some Failed))
 
 -- What was opened.
+
+-- A disk opens for a node: it has the node's size, and a text that it tells stands for a fence and records.
+abbrev pub OpensForNode : {D : Type 0} → Bool → (D → List ℕ) → Layout → NodeSpec → D → Type 0
+OpensForNode tells text layout node disk = let g = geometry_of layout node in
+    (length (text disk) ≡ disk_bytes g) × (IsTrue tells → (fence : ℕ) × (records : Records) × StandsFor g fence (text disk) records)
+
+-- A disk opens for a journal: it has a journal's size, and the entries of a text that it tells make an export.
+abbrev pub OpensForJournal : {D : Type 0} → Bool → (D → List ℕ) → Volume → D → Type 0
+OpensForJournal tells text v disk = (length (text disk) ≡ journal_bytes) × (IsTrue tells → (export : Export) × MakesExport v (text disk) export)
+
+-- Each of these disks opens, those of the nodes in their order and that of a journal behind them.
+pub record AllOpen {D : Type 0} (tells : Bool) (text : D → List ℕ) (v : Volume) (disks : List D) : Type 0 where
+  pub nodes : List D
+  pub journal : D
+  pub disks_are : disks ≡ nodes ++ journal ∷ []
+  pub each : AllZip (OpensForNode tells text v.layout) (nodes_of v.clusters) nodes
+  pub last : OpensForJournal tells text v journal
 
 -- the loss of each node that the export enrolled last, or 0
 abbrev pub losses_of : Export → Volume → List ℕ

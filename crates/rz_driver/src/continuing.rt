@@ -5,12 +5,13 @@ ghost use Rattle.rz_disk.specs.Meter.{faults};
 ghost use Rattle.rz_events.specs.Volume.{IsVolume, nodes_of};
 ghost use Rattle.rz_events.specs.declared.export.Call.{Call as ACall};
 ghost use Rattle.rz_events.specs.declared.events.Event.{Event as AnEvent};
+ghost use Rattle.rz_journal.specs.Stands.{disk_bytes as journal_bytes};
 ghost use Rattle.rz_metadata.specs.Reopened.{AllTextsOf, IsAsItCame, MakesExport};
 ghost use Rattle.rz_metadata.specs.Stands.{CountsFaults, IsJournalOpen, Stands, disk_of, export_in, is_journaled};
 ghost use Rattle.rz_nodes.specs.Opened.{AreDisksBack};
 ghost use Rattle.rz_restart_laws.specs.Earlier.{IsEarlier, IsRestarted};
 ghost use Rattle.rz_driver_nodes.specs.Meters.{faults_at};
-ghost use Rattle.rz_driver.specs.Continued.{journal_refusal, AreLeft, IsCauseAgain, IsJournalCause, IsOpenedAgain, IsOpenedOver, IsRefusedOver};
+ghost use Rattle.rz_driver.specs.Continued.{journal_refusal, AllOpen, AreLeft, IsCauseAgain, IsJournalCause, IsOpenedAgain, IsOpenedOver, IsRefusedOver};
 ghost use Rattle.rz_driver.specs.Worlds.{HasCounted, left_behind, IsDriver, HoldsBetweenTurns};
 
 use crate::driver::Driver;
@@ -40,6 +41,7 @@ impl<D: Disk> Driver<D> {
         ensures volume { IfOk result (λ d. d.volume ≡ volume.now) }
         ensures journal { IfOk result (λ d. is_journaled d.shared.export ≡ true) }
         ensures opened { IfOk result (λ d. IsOpenedAgain volume.now disks.items d) }
+        ensures open { IfOk result (λ d. AllOpen D.tells D.text volume.now disks.items) }
         ensures counted { IfOk result (λ d. HasCounted d (faults_at D.meter disks.items (length (nodes_of volume.now.clusters)))) }
 
         // Over disks that tell their texts a play goes on after the log of the earlier runs, in which each node that was up is
@@ -77,6 +79,7 @@ fn open_journal<D: Disk>(
     ensures open { IfOk result (λ m. IsJournalOpen m) }
     ensures counted { IfOk result (λ m. CountsFaults D.meter (faults (D.meter disk)) m) }
     ensures stands { IfOk result (λ m. IsTrue D.tells → (calls : List ACall) → AllTextsOf volume.now (D.image disk) calls → Stands D.tells D.meter D.image (faults (D.meter disk)) m calls) }
+    ensures sized { IfOk result (λ m. length (D.text disk) ≡ journal_bytes) }
     ensures came { IfOk result (λ m. IfSome (disk_of m) (IsAsItCame D.meter D.text D.image disk)) }
     ensures back { IfErr result (λ e. IsAsItCame D.meter D.text D.image disk e.0) }
     ensures cause { IfErr result (λ e. IsJournalCause D.tells D.meter D.text volume.now index disk e.0 e.1) }

@@ -5,6 +5,7 @@ ghost use Rattle.rz_play.specs.Free.{IsTurnOver};
 ghost use Rattle.rz_play.specs.World.{has_work};
 ghost use Rattle.rz_player.specs.Behind.{Before, behind};
 ghost use Rattle.rz_player.specs.Ends.{StaysTrue, IsCut};
+ghost use Rattle.rz_player.specs.Messages.{IsTurnSent};
 ghost use Rattle.rz_metadata.specs.Stands.{is_journaled, refusal_of};
 ghost use Rattle.rz_driver.specs.Endings.{end_by};
 ghost use Rattle.rz_driver.specs.Worlds.{HasCounted, place_of, world_of, IsDriver, HoldsBetweenTurns, LeavesAtEnd};
@@ -39,6 +40,7 @@ impl<D: Disk> Driver<D> {
         ensures counted { OnOk result (self.new.turns ≡ self.old.turns + 1) }
         ensures taken { OnOk result ((b : Before) → HoldsBetweenTurns self.old b → IsTurnOver self.old.volume by D.tells (behind b.log (world_of self.old)) (behind b.log (world_of self.new))) }
         ensures link { self.new.shared.lost + L.lost link.old ≤ self.old.shared.lost + L.lost link.new }
+        ensures sent { OnOk result (IsTurnSent L.says self.old.volume by link.old link.new (world_of self.old) (world_of self.new)) }
         ensures log { OnErr result (self.new.shared.log.events ≡ self.old.shared.log.events) }
         ensures lost { OnErr result (self.new.shared.lost ≡ self.old.shared.lost) }
         ensures held { OnOk result (StaysTrue (HoldsBetweenTurns self.old) (HoldsBetweenTurns self.new)) }

@@ -9,7 +9,7 @@ ghost use Rattle.rz_play.specs.Turns as model;
 ghost use Rattle.rz_driver_asks.specs.Locking.{lock_of};
 ghost use Rattle.rz_driver_nodes.specs.Nodes.{IsAsked};
 ghost use Rattle.rz_operation.specs.Machine.{work_in, HasLayout};
-ghost use Rattle.rz_player.specs.Messages.{IsSent};
+ghost use Rattle.rz_player.specs.Messages.{IsAskSent, IsSent};
 ghost use Rattle.rz_driver_nodes.specs.Meters.{AreMetered, AreCounted, CarriesCounts};
 ghost use Rattle.rz_metadata.specs.Stands.{IsJournalOpen};
 ghost use Rattle.rz_driver_asks.specs.Asked.{LeavesAsked};
@@ -72,6 +72,7 @@ pub fn act<D: Disk, J: Disk, L: Link>(
     ensures err { OnErr result (shared.new.log.events ≡ shared.old.log.events) }
     ensures lost { OnErr result (shared.new.lost ≡ shared.old.lost) }
     ensures link { shared.new.lost + L.lost link.old ≤ shared.old.lost + L.lost link.new }
+    ensures sent { OnOk result (IsAskSent L.says (ask_of layout (work_in agenda.old.machine)) agenda.old.miss by link.old link.new shared.old.log.events shared.new.log.events) }
     ensures bins { length shared.new.bins.items ≡ length shared.old.bins.items }
     ensures count { vec_len shared.new.servers ≡ vec_len shared.old.servers }
     ensures held { OnOk result ((numbers : List ℕ) → CarriesCounts (AreMetered D.meter numbers shared.old.servers.items shared.old.log.events) (AreMetered D.meter numbers shared.new.servers.items shared.new.log.events)) }

@@ -8,8 +8,11 @@ use Rattle.rz_events.specs.declared.nodes.NodeAsk.{NodeAsk}
 use Rattle.rz_events.specs.declared.nodes.NodeAnswer.{NodeAnswer}
 use Rattle.rz_events.specs.declared.events.Event.{Event}
 use Rattle.rz_events.specs.declared.events.Event.TheVariants as e
+use Rattle.rz_events.specs.Volume.{Volume}
 use Rattle.rz_node_model.specs.NodeEvents.{node_event}
+use Rattle.rz_operation_model.specs.Ask.{Ask, AskNode, ask_of}
 use Rattle.rz_operation_model.specs.Turns.{goes_by_link}
+use Rattle.rz_play.specs.World.{World, at_work}
 
 -- the node answered, with an event of the answer
 abbrev pub HasAnswered : Actor → ℕ → NodeAsk → Event → Type 0
@@ -27,3 +30,13 @@ pub record IsSent {L : Type 0} (says : L → ℕ → Sent → L → Type 0) (mis
   pub sent : Sent
   pub fared : HasFared says (goes_by_link question) miss n link sent new_link
   pub noted : IsNotedAs by n question sent old new
+
+-- What an actor asks, where its next message may be planned to be lost: a message to a node is sent so, and of anything else the link
+-- is not asked.
+abbrev pub IsAskSent : {L : Type 0} (says : L → ℕ → Sent → L → Type 0) → Ask → (miss : Option Bool) → Actor → (link new_link : L) → (old new : List Event) → Type 0
+IsAskSent says (AskNode n question) miss by link new_link old new = IsSent says miss by n question link new_link old new
+IsAskSent says ask miss by link new_link old new = new_link ≡ link
+
+-- what a turn makes of the link
+abbrev pub IsTurnSent : {L : Type 0} (says : L → ℕ → Sent → L → Type 0) → Volume → Actor → (link new_link : L) → World → World → Type 0
+IsTurnSent says v by link new_link w next = let s = at_work (w.agendas by) in IsAskSent says (ask_of v.layout s.work) s.miss by link new_link w.log next.log

@@ -9,6 +9,7 @@ ghost use Rattle.rz_events.specs.declared.export.Call.{Call as ACall};
 ghost use Rattle.rz_play.specs.Stops.{HasCause, JournalRefused, most_turns};
 ghost use Rattle.rz_player.specs.Behind.{Before, behind};
 ghost use Rattle.rz_player.specs.Ends.{StaysTrue, CutsOff, IsCut, TellsOf};
+ghost use Rattle.rz_player.specs.Messages.{IsTurnSent};
 ghost use Rattle.rz_player.specs.declared.lines.PlayEnd.{PlayEnd as AnEnd};
 
 use crate::lines::PlayEnd;
@@ -81,6 +82,9 @@ pub trait Stage {
         ensures counted { OnOk result ((world self.new).turns ≡ (world self.old).turns + 1) }
         ensures taken { OnOk result ((b : Before) → holds self.old b → IsTurnOver (volume self.old) by Self.tells (behind b.log (world self.old)) (behind b.log (world self.new))) }
         ensures lost { (world self.new).lost + L.lost link.old ≤ (world self.old).lost + L.lost link.new }
+
+        // The link is asked where the actor sends a message by it, once, and what it says is what comes of the message.
+        ensures sent { OnOk result (IsTurnSent L.says (volume self.old) by link.old link.new (world self.old) (world self.new)) }
         ensures faults { (first : ℕ) → counts_on self.old first → counts_on self.new first }
         ensures log { OnErr result (TellsOf (world self.old) (world self.new)) }
         ensures held { OnOk result (StaysTrue (holds self.old) (holds self.new)) }

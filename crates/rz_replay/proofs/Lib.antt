@@ -1,8 +1,10 @@
 pub mod Asked
 pub mod Completing
 pub mod Continuing
+pub mod Drivers
 pub mod Journals
 pub mod Lent
+pub mod Unmade
 pub mod Untold
 pub mod Wanting
 pub mod Blocks

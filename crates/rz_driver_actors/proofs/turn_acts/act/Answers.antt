@@ -1,13 +1,14 @@
-use Rattle.std.proofs.Common.{◌≡◌, IsTrue, OnErr, Some, refl, ap, subst}
+use Rattle.std.proofs.Common.{◌≡◌, IsTrue, OnErr, Option, Some, refl, sym, ap, ◌∙◌, subst}
 use Rattle.std.proofs.lemmas.Result.{on_ok_weaker, on_err_weaker}
 use Rattle.rz_driver_actors.specs.Acts.{IsActorMessage, Exports, Opens, Sends, Says}
 use Rattle.rz_events.specs.declared.export.Call.TheVariants as call
 use Rattle.rz_events.specs.declared.tree.TreeCall.TheVariants as tree
 use Rattle.rz_export_model.specs.Export.{export_reply}
 use Rattle.rz_metadata.specs.Stands.{IsJournalOpen, export_in}
-use Rattle.rz_operation.specs.Machine.{text_of, work_in}
+use Rattle.rz_operation.specs.Machine.{Machine, text_of, work_in}
 use Rattle.rz_operation_model.specs.Ask.{Ask, ask_of}
 use Rattle.rz_driver_asks.specs.Asked.{KeepsAsked, LeavesAsked, call_asked}
+use Rattle.rz_player.specs.Messages.{IsAskSent, IsSent}
 use Rattle.rz_driver_actors.specs.Stores.{Asks, AsksNothing}
 use Rattle.rz_driver_actors.proofs.StoreLemmas.{ask-there, fate-stays, leaves-with-it, said-stays-export, same-store}
 use Rattle.rz_driver_nodes.proofs.MeterLemmas.{still-err, metered-stays, still-left, export-stays, said-stays}
@@ -50,6 +51,54 @@ returns-in-Node-clause-ok g c =
 pub returns-in_ok-done-in-Say-clause-ok : goal.returns-in_ok-done-in-Say-clause-ok
 returns-in_ok-done-in-Say-clause-ok g c =
     Says c.in-Some.machine c.say.new.machine c.in-Some.is refl (record { todo = refl; number = refl }) refl c.in_ok-done-in-Say.done c.in_ok-done-in-Say.ensures.ok c.release_if.ensures refl refl refl
+
+-- The link.
+
+pub returns-in_default-clause-sent : goal.returns-in_default-clause-sent
+returns-in_default-clause-sent g c =
+    let p = c.args.shared.now in
+    subst (λ (o : Option Machine). IsAskSent g.L.Link.says (ask_of c.args.layout (work_in o)) c.args.agenda.now.miss c.args.by c.args.link.now c.args.link.now p.log.events p.log.events) (sym c.in_default.is) refl
+
+pub returns-in-Rest-clause-sent : goal.returns-in-Rest-clause-sent
+returns-in-Rest-clause-sent g c =
+    let p = c.args.shared.now in
+    let there = ask-there c.args.layout c.args.agenda.now.machine c.in-Some.machine c.in-Some.is c.requires.machine in
+    subst (λ (a : Ask). IsAskSent g.L.Link.says a c.args.agenda.now.miss c.args.by c.args.link.now c.args.link.now p.log.events p.log.events) (sym c.in-Rest.ensures ∙ there) refl
+
+pub returns-in-Export-clause-sent : goal.returns-in-Export-clause-sent
+returns-in-Export-clause-sent g c =
+    let p = c.args.shared.now in
+    let new = c.ask_export.new.machine in
+    let there = ask-there c.args.layout c.args.agenda.now.machine c.in-Some.machine c.in-Some.is c.requires.machine in
+    on_ok_weaker c.ask_export.result
+    (λ (part : IsExportPart c.args.by c.in-Some.machine new (export_in p.export) (export_in c.ask_export.new.export) p.log.events c.ask_export.new.log.events).
+    subst (λ (a : Ask). IsAskSent g.L.Link.says a c.args.agenda.now.miss c.args.by c.args.link.now c.args.link.now p.log.events c.ask_export.new.log.events) (sym part.1 ∙ there) refl)
+    c.ask_export.ensures.ok
+
+pub returns-in-Lock-clause-sent : goal.returns-in-Lock-clause-sent
+returns-in-Lock-clause-sent g c =
+    let p = c.args.shared.now in
+    let new = c.open.new.machine in
+    let there = ask-there c.args.layout c.args.agenda.now.machine c.in-Some.machine c.in-Some.is c.requires.machine in
+    on_ok_weaker c.open.result
+    (λ (part : IsOpenPart c.args.by c.in-Some.machine new (export_in p.export) (export_in c.open.new.export) p.locks c.open.new.locks c.args.agenda.now.lock c.open.new.held p.log.events c.open.new.log.events).
+    subst (λ (a : Ask). IsAskSent g.L.Link.says a c.args.agenda.now.miss c.args.by c.args.link.now c.args.link.now p.log.events c.open.new.log.events) (sym part.4 ∙ there) refl)
+    c.open.ensures.ok
+
+pub returns-in-Node-clause-sent : goal.returns-in-Node-clause-sent
+returns-in-Node-clause-sent g c =
+    let p = c.args.shared.now in
+    let there = ask-there c.args.layout c.args.agenda.now.machine c.in-Some.machine c.in-Some.is c.requires.machine in
+    on_ok_weaker c.message.result
+    (λ (sent : IsSent g.L.Link.says c.args.agenda.now.miss c.args.by c.in-Node.node c.in-Node.ask c.args.link.now c.message.new.link p.log.events c.message.new.shared.log.events).
+    subst (λ (a : Ask). IsAskSent g.L.Link.says a c.args.agenda.now.miss c.args.by c.args.link.now c.message.new.link p.log.events c.message.new.shared.log.events) (sym c.in-Node.ensures ∙ there) sent)
+    c.message.ensures.sent
+
+pub returns-in_ok-done-in-Say-clause-sent : goal.returns-in_ok-done-in-Say-clause-sent
+returns-in_ok-done-in-Say-clause-sent g c =
+    let p = c.args.shared.now in
+    let there = ask-there c.args.layout c.args.agenda.now.machine c.in-Some.machine c.in-Some.is c.requires.machine in
+    subst (λ (a : Ask). IsAskSent g.L.Link.says a c.args.agenda.now.miss c.args.by c.args.link.now c.args.link.now p.log.events c.say.new.log.events) (sym c.in-Say.ensures.1 ∙ there) refl
 
 -- The words beside the meters.
 

@@ -7,10 +7,10 @@ use Rattle.rz_nodes.specs.Opened.{AreDisksBack}
 use Rattle.rz_restart_laws.specs.Earlier.{IsEarlier, IsRestarted}
 use Rattle.rz_driver_nodes.specs.Images.{AreDisksImaged}
 use Rattle.rz_driver_nodes.specs.Meters.{faults_at}
-use Rattle.rz_driver.specs.Continued.{AreLeft, IsCauseAgain, IsOpenedAgain, IsOpenedOver, IsRefusedOver}
+use Rattle.rz_driver.specs.Continued.{AllOpen, AreLeft, IsCauseAgain, IsOpenedAgain, IsOpenedOver, IsRefusedOver}
 use Rattle.rz_driver.specs.Endings.{StandsForLog}
 use Rattle.rz_driver.specs.Worlds.{HasCounted, left_behind, IsDriver, HoldsBetweenTurns}
-use Rattle.rz_driver.proofs.AgainLemmas.{over-counted, over-ready, over-again, over-held, over-untold, over-back, over-cause, journal-back, journal-cause, kept-same, split-same}
+use Rattle.rz_driver.proofs.AgainLemmas.{over-counted, over-ready, over-again, over-held, over-open, over-untold, over-back, over-cause, journal-back, journal-cause, kept-same, split-same}
 use Rattle.rz_driver.proofs.BehindJournal.{front-count}
 use Rattle.rz_driver.proofs.driver.Driver.again.Goals as goal
 
@@ -72,6 +72,17 @@ returns-in-Ok-open_journal-clause-opened g c =
     let count = front-count disks nodes journal (length (nodes_of v.clusters)) c.in-Ok.ensures.split c.requires.count in
     IfOk-weaker c.open_nodes.result (λ d. IsOpenedOver v export nodes d) (λ d. IsOpenedAgain v disks d)
     (λ d over. over-again v c.open_nodes.ensures.rules export nodes count d over disks journal c.in-Ok.ensures.split c.in-Ok-open_journal.ensures.made) c.open_nodes.ensures.opened
+
+pub returns-in-Ok-open_journal-clause-open : goal.returns-in-Ok-open_journal-clause-open
+returns-in-Ok-open_journal-clause-open g c =
+    let v = c.args.volume.now in
+    let disks = c.args.disks.items in
+    let nodes = c.in-Ok.nodes.items in
+    let journal = c.in-Ok.journal in
+    let export = c.in-Ok-open_journal.export in
+    let count = front-count disks nodes journal (length (nodes_of v.clusters)) c.in-Ok.ensures.split c.requires.count in
+    IfOk-weaker c.open_nodes.result (λ d. IsOpenedOver v export nodes d) (λ d. AllOpen g.D.Disk.tells g.D.Disk.text v disks)
+    (λ d over. over-open v c.open_nodes.ensures.rules export nodes count d over disks journal c.in-Ok.ensures.split c.in-Ok-open_journal.ensures.sized c.in-Ok-open_journal.ensures.made) c.open_nodes.ensures.opened
 
 pub returns-in-Ok-open_journal-clause-untold : goal.returns-in-Ok-open_journal-clause-untold
 returns-in-Ok-open_journal-clause-untold g c =

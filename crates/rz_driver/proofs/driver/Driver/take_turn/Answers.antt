@@ -8,7 +8,7 @@ use Rattle.rz_driver.proofs.DriverMeters.{log-kept}
 use Rattle.rz_driver.proofs.JournalLemmas.{journal-goes-on, journal-ends, journal-still}
 use Rattle.rz_driver_nodes.proofs.CoherenceLemmas.{on-err}
 use Rattle.rz_driver_actors.proofs.ActCoherence.{act-grows}
-use Rattle.rz_driver.proofs.TakeLemmas.{agenda-there, have-layouts, tied-at, drives, turned, turned-told}
+use Rattle.rz_driver.proofs.TakeLemmas.{agenda-there, have-layouts, tied-at, drives, turn-sent, turned, turned-told}
 use Rattle.rz_driver.proofs.Cuts.{ends-after, refused-none, turn-cause, turn-open, uncut}
 use Rattle.rz_driver.proofs.driver.Driver.take_turn.Goals as goal
 
@@ -52,6 +52,14 @@ returns-clause-taken g c = λ b held.
     in
     turned c.args.by c.in-Some.place _ c.act.new.shared c.make_room.new.self c.index_mut-agenda.result.now c.begin_next.new.self c.act.new.agenda ready at there.0 there.1
     c.in_ok-begin_next.ensures.ok c.in_ok-begin_next.ensures.agenda c.begin_next.ensures.lock c.make_room.ensures.same c.in_ok-act.ensures.ok b.log texts good c.args.self.now c.self.view_is
+
+pub returns-clause-sent : goal.returns-clause-sent
+returns-clause-sent g c =
+    let ready = subst (λ (x : Driver g.row.D.Denot g.D.Disk). IsDriver x) (sym c.self.view_is) c.requires.ready in
+    let at = sym c.place.ensures ∙ c.in-Some.is in
+    let there = agenda-there c.args.by c.in-Some.place c.index_mut-agenda.result.now _ ready at c.index_mut-agenda.ensures.value in
+    turn-sent g.L.Link.says c.args.by c.in-Some.place _ c.make_room.new.self c.index_mut-agenda.result.now c.begin_next.new.self at there.0
+    c.in_ok-begin_next.ensures.ok c.make_room.ensures.same c.args.link.now c.act.new.link _ c.in_ok-act.ensures.sent c.args.self.now c.self.view_is
 
 pub returns-clause-counted : goal.returns-clause-counted
 returns-clause-counted g c = ap (λ (x : Driver g.row.D.Denot g.D.Disk). x.turns + 1) c.self.view_is
