@@ -167,11 +167,11 @@ never-enroll s loss (Some e) is = old (nat_lt loss e.loss) is
 
 never-barred : (s : Export) (mask stamp i : ℕ) (places : List ℕ) → ¬ (barred s mask stamp i places ≡ Some NoMemory)
 never-barred s mask stamp i [] is = cc
-never-barred s mask stamp i (n ∷ places) is = go (has_bit mask i && nat_lt stamp (fence_of s n)) is
+never-barred s mask stamp i (n ∷ places) is = go (never-barred s mask stamp (i + 1) places) (has_bit mask i && nat_lt stamp (fence_of s n)) is
   where
-    go : (b : Bool) → ¬ (cond b (Some (Enrolled i (fence_of s n))) (barred s mask stamp (i + 1) places) ≡ Some NoMemory)
-    go true q = cc
-    go false q = never-barred s mask stamp (i + 1) places q
+    go : ¬ (barred s mask stamp (i + 1) places ≡ Some NoMemory) → (b : Bool) → ¬ (cond b (Some (Enrolled i (fence_of s n))) (barred s mask stamp (i + 1) places) ≡ Some NoMemory)
+    go rest true q = cc
+    go rest false q = rest q
 
 never-published : (s : Export) (key : Key) (stamp mask : ℕ) → ¬ (unwrap_or (no_publish s key stamp mask) Accepted ≡ NoMemory)
 never-published s key stamp mask is = go _ _ _ unknown revoked enrolled is
@@ -223,7 +223,7 @@ may-want s u c r answered is = ⊎_elim
 module _ {D : Type 0} (old new : JournalView D) (c : Call) (r : Reply) (is : r ≡ NoMemory) where
   pub may-lack : IsJournalAnswer old c (answer.Reply r) new → MayLackBehind old.export c
   may-lack answered = ⊎_elim
-      (λ (closed : (old.closed ≡ true) × (answer.Reply r ≡ answer.Closed) × (new ≡ old)). absurd (let q = closed.1.0 in cc))
+      (λ (closed : (old.closed ≡ true) × (answer.Reply r ≡ answer.Closed) × (new ≡ old)). absurd (let q = closed.1 in cc))
       (λ (opened : (old.closed ≡ false) × ((new.closed ≡ false) × IsJournalReply old c r new)). ⊎_elim
       (λ (replied : IsAnswered old.export c r new.export × HasEntryRoom old c). inl (may-want old.export new.export c r replied.0 is))
       (λ (want : IsSome (entry_of c) × (r ≡ NoMemory) × (new.export ≡ old.export)). inr want.0)
@@ -232,7 +232,7 @@ module _ {D : Type 0} (old new : JournalView D) (c : Call) (r : Reply) (is : r �
 
   pub export-same : IsJournalAnswer old c (answer.Reply r) new → new.export ≡ old.export
   export-same answered = ⊎_elim
-      (λ (closed : (old.closed ≡ true) × (answer.Reply r ≡ answer.Closed) × (new ≡ old)). absurd (let q = closed.1.0 in cc))
+      (λ (closed : (old.closed ≡ true) × (answer.Reply r ≡ answer.Closed) × (new ≡ old)). absurd (let q = closed.1 in cc))
       (λ (opened : (old.closed ≡ false) × ((new.closed ≡ false) × IsJournalReply old c r new)). ⊎_elim
       (λ (replied : IsAnswered old.export c r new.export × HasEntryRoom old c). answered_not old.export new.export c r replied.0 (ap accepts is))
       (λ (want : IsSome (entry_of c) × (r ≡ NoMemory) × (new.export ≡ old.export)). want.2)

@@ -52,7 +52,7 @@ pub goes-on : (parts : List Part) (i : ℕ) (part : Part) (said new : List Enrol
 goes-on parts i part said new at so_far is =
     ap (λ (r : List Enrolment). r ++ said_in (drop (i + 1) parts)) is
     ∙ append_assoc said (said_in (part ∷ [])) (said_in (drop (i + 1) parts))
-    ∙ ap (λ (r : List Enrolment). losses ++ r) (sym (said-append (part ∷ []) (drop (i + 1) parts)) ∙ ap said_in (sym (part-here parts i part at)))
+    ∙ ap (λ (r : List Enrolment). said ++ r) (sym (said-append (part ∷ []) (drop (i + 1) parts)) ∙ ap said_in (sym (part-here parts i part at)))
     ∙ so_far
   where
     said-append : (xs ys : List Part) → said_in (xs ++ ys) ≡ said_in xs ++ said_in ys
@@ -101,7 +101,7 @@ ends-with s i said none so_far =
 
 -- ---- the enrolment of a node
 
-given : Option Enrolled → ℕ → Option Enrolment
+abbrev given : Option Enrolled → ℕ → Option Enrolment
 given None q = None
 given (Some e) q = Some (enrolment_of (q, e))
 

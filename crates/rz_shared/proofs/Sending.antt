@@ -20,7 +20,7 @@ use Rattle.rz_index.proofs.nodes.IndexNode.TheSendSync as Row
 use Rattle.rz_index.specs.contracts.index.Index as Index
 use Rattle.rz_node.specs.contracts.node.Node as Node
 use Rattle.rz_node.specs.contracts.node.Node.TheInside as NodeIn
-use Rattle.rz_sequence.proofs.sequence.TreeNode.TheLaws.TheKnot as items
+use Rattle.rz_sequence.proofs.sequence.Sequence.TheLaws.TheKnot as items
 use Rattle.rz_blocks.proofs.row.Row.TheSendSync as Marked
 use Rattle.rz_blocks.specs.contracts.marks.Marks as Marks
 use Rattle.rz_names.proofs.entries.PathEntry.TheSendSync as Name
