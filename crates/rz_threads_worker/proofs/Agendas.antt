@@ -93,7 +93,7 @@ none-left (op ∷ ops) new same rest =
 
 -- ---- the operations are such as machines take
 
-pub all-taken : (v : Volume) → IsBeginningLaw v → (by : Actor) (ops : List Operation) → AllByRecursion (IsOperation v by) ops → AllByRecursion (answers.IsOperation v.layout) ops
+pub all-taken : (v : Volume) → IsBeginningLaw v → (by : Actor) (ops : List Operation) → AllByRecursion (IsOperation v by) ops → AllByRecursion (answers.IsWithinLayout v.layout) ops
 all-taken v begins by [] all = tt
 all-taken v begins by (op ∷ ops) all = ((begins by op all.0).takes, all-taken v begins by ops all.1)
 

@@ -39,7 +39,7 @@ returns-in_default-clause-begun g c = (agenda_of c.args.worker.now.agenda, none-
 pub begin_next-requires : goal.begin_next-requires
 begin_next-requires g c = (
   c.type_bounds.sync-R,
-  subst (λ (y : Layout). AllByRecursion (answers.IsOperation y) c.args.worker.now.agenda.todo.items) (sym (c.layout-layout.ensures ∙ ap (λ (v : Volume). v.layout) c.requires.volume))
+  subst (λ (y : Layout). AllByRecursion (answers.IsWithinLayout y) c.args.worker.now.agenda.todo.items) (sym (c.layout-layout.ensures ∙ ap (λ (v : Volume). v.layout) c.requires.volume))
       (all-taken (volume_in g.J.Naming.kind) (c.begins.ensures (volume_in g.J.Naming.kind)) c.args.worker.now.pass.actor c.args.worker.now.agenda.todo.items c.requires.ready.todo),
 )
 
