@@ -33,7 +33,7 @@ use Rattle.rz_driver.specs.Worlds.{place_of, agenda_in, world, world_of, AreLock
 use Rattle.rz_driver_nodes.proofs.Rows.{all-set, all-at}
 use Rattle.rz_driver.proofs.ReadyLemmas.{servers-after, numbers-after, agenda-after, locks-after}
 use Rattle.rz_player.specs.Behind.{behind}
-use Rattle.rz_player.specs.Messages.{IsAskSent, IsTurnSent}
+use Rattle.rz_player.specs.Messages.{IsAskSent}
 use Rattle.rz_driver.proofs.TurnLemmas.{AreTexts, IsGood, turn-is, free-turn-is}
 use Rattle.rz_driver.proofs.WorldLemmas.{client-place, rebuilder-place, agenda-here}
 
@@ -113,10 +113,10 @@ turned-told {G = G} by place d q log a0 a b ready at here low taken fits kept ev
 
 -- and the link was asked what the actor's message asks
 pub turn-sent : {D : Type 0} {G : Ghosts D} {L : Type 0} (says : L → ℕ → Sent → L → Type 0) (by : Actor) (place : ℕ) (d : Driver D G) (log : Logged) (a0 a : Agenda) → place_of by ≡ Some place → slice_get d.agendas.items place ≡ Some a0
-    → agenda_of a ≡ at_work (agenda_of a0) → log.events ≡ d.shared.log.events → (link link' : L) (next : World) → IsAskSent says (ask_of d.volume.layout (work_in a.machine)) a.miss by link link' log.events next.log
-    → (f : Driver D G) → d ≡ f → IsTurnSent says f.volume by link link' (world_of f) next
-turn-sent {D = D} {G = G} says by place d log a0 a at here taken events link link' next sent f is =
+    → agenda_of a ≡ at_work (agenda_of a0) → log.events ≡ d.shared.log.events → (link link' : L) (h : List Event) → IsAskSent says (ask_of d.volume.layout (work_in a.machine)) a.miss by link link' log.events h
+    → (f : Driver D G) → d ≡ f → IsAskSent says (ask_of f.volume.layout (at_work ((world_of f).agendas by)).work) (at_work ((world_of f).agendas by)).miss by link link' (world_of f).log h
+turn-sent {D = D} {G = G} says by place d log a0 a at here taken events link link' h sent f is =
     let same : agenda_of a ≡ at_work (agenda_in d.agendas.items by) = taken ∙ ap at_work (sym (agenda-here d.agendas.items by place a0 at here)) in
-    subst (λ (x : Driver D G). IsTurnSent says x.volume by link link' (world_of x) next) is
-    (subst (λ (s : APlayer). IsAskSent says (ask_of d.volume.layout s.work) s.miss by link link' d.shared.log.events next.log) same
-    (subst (λ (h : List Event). IsAskSent says (ask_of d.volume.layout (work_in a.machine)) a.miss by link link' h next.log) events sent))
+    subst (λ (x : Driver D G). IsAskSent says (ask_of x.volume.layout (at_work ((world_of x).agendas by)).work) (at_work ((world_of x).agendas by)).miss by link link' (world_of x).log h) is
+    (subst (λ (s : APlayer). IsAskSent says (ask_of d.volume.layout s.work) s.miss by link link' d.shared.log.events h) same
+    (subst (λ (k : List Event). IsAskSent says (ask_of d.volume.layout (work_in a.machine)) a.miss by link link' k h) events sent))

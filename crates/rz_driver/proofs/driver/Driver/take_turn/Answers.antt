@@ -59,7 +59,7 @@ returns-clause-sent g c =
     let at = sym c.place.ensures ∙ c.in-Some.is in
     let there = agenda-there c.args.by c.in-Some.place c.index_mut-agenda.result.now _ ready at c.index_mut-agenda.ensures.value in
     turn-sent g.L.Link.says c.args.by c.in-Some.place _ c.make_room.new.self c.index_mut-agenda.result.now c.begin_next.new.self at there.0
-    c.in_ok-begin_next.ensures.ok c.make_room.ensures.same c.args.link.now c.act.new.link _ c.in_ok-act.ensures.sent c.args.self.now c.self.view_is
+    c.in_ok-begin_next.ensures.ok c.make_room.ensures.same c.args.link.now c.act.new.link c.act.new.shared.log.events c.in_ok-act.ensures.sent c.args.self.now c.self.view_is
 
 pub returns-clause-counted : goal.returns-clause-counted
 returns-clause-counted g c = ap (λ (x : Driver g.row.D.Denot g.D.Disk). x.turns + 1) c.self.view_is
