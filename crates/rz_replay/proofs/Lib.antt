@@ -1,7 +1,7 @@
 pub mod Asked
 pub mod Completing
 pub mod Continuing
-pub mod Drivers
+pub mod Beginnings
 pub mod Journals
 pub mod Lent
 pub mod Unmade

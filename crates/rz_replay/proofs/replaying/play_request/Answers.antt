@@ -45,7 +45,7 @@ use Rattle.rz_replay.specs.Disks.{AreAllBack, AreFaultsTold, AreImagesTold, AreL
 use Rattle.rz_replay.specs.Drivers.{BeginsAs, GoesOnOver, IsDriverFor, IsUnmade, has_journal}
 use Rattle.rz_replay.specs.Replays.{PlaysRequest}
 use Rattle.rz_replay.proofs.Continuing.{any_told, own_as}
-use Rattle.rz_replay.proofs.Drivers.{begins-again, begins-anew, first-world, unjournaled}
+use Rattle.rz_replay.proofs.Beginnings.{begins-again, begins-anew, first-world, unjournaled}
 use Rattle.rz_replay.proofs.Journals.{again-back, at-last, between-on, first-back, has-disk, journal-end, journal-left, may-follow, next-on, no-disk, plain-back, plain-end, split-last, whole-end}
 use Rattle.rz_replay.proofs.Unmade.{not-made}
 use Rattle.rz_replay.proofs.replaying.play_request.Given as given
