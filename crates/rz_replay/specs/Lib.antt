@@ -1,6 +1,5 @@
 pub mod Clear
 pub mod Disks
-pub mod Drivers
 pub mod Migrations
 pub mod Replays
 pub mod Untouched

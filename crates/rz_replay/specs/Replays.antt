@@ -5,13 +5,22 @@ use Rattle.rz_request.specs.declared.command.Command.{Command}
 use Rattle.rz_request.specs.declared.command.Command.TheVariants.{Migrate}
 use Rattle.rz_disk.specs.Meter.{Meter}
 use Rattle.rz_events.specs.declared.events.Event.{Event}
+use Rattle.rz_nodes.specs.declared.refusal.OpenRefusal.{OpenRefusal}
+use Rattle.rz_nodes.specs.declared.refusal.OpenRefusal.TheVariants as opens
 use Rattle.rz_request.specs.Requests.{Asks, Reading}
+use Rattle.rz_request.specs.declared.refusal.Refusal.TheVariants as refusals
 use Rattle.rz_request.specs.declared.refusal.Stop.{Stop}
 use Rattle.rz_request.specs.declared.wishes.Request.{Request}
-use Rattle.rz_report.specs.Output.{Sunk}
+use Rattle.rz_report.specs.Output.{Sunk, Lacks}
 use Rattle.rz_report.specs.Replays.{Course, Ensues, FollowsRequest}
+use Rattle.rz_report.specs.Telling.{TellsRefusal}
 use Rattle.rz_replay.specs.Disks.{HandsBack, faulted}
 use Rattle.rz_replay.specs.Migrations.{IsMigrationTold}
+
+-- disks do not open again: memory is wanting, or the line of the disk that does not was to be written
+abbrev pub FailsAgain : OpenRefusal → Sunk → ℕ → Type 0
+FailsAgain opens.NoMemory sink status = Lacks sink status
+FailsAgain (opens.Open index cause) sink status = TellsRefusal (refusals.Open index cause) sink status
 
 -- A request is played over disks, before and after, with a link that lost so many messages and a sink; and the disks are handed back.
 abbrev pub PlaysRequest : {D : Type 0} → Bool → (D → List ℕ) → (D → Meter) → (D → List ℕ → Type 0) → Request → List D → List D → (lost : ℕ) → Sunk → ℕ → List Event → Type 0
