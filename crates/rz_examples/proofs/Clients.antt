@@ -31,7 +31,7 @@ use Rattle.rz_examples.proofs.Rows.{writes, first_keep, the_record, keeps_7, fre
 
 -- A read that moved.
 
-abbrev second : Begun
+abbrev pub second : Begun
 second = record { by = two; key = block; base = 1; text = world }
 
 second_opened : IsCourse plain.layout two 1 (opened_by_two 5 ∷ []) (told plain.layout (begun (operation.Put path 0 (datum.Bytes world))) (Replied (reply.Tree (given.File (file 5)))))
@@ -39,7 +39,7 @@ second_opened =
     Went _ _ (Replied (reply.Tree (given.File (file 5)))) (opened_by_two 5 ∷ []) (Begins [] (operation.Put path 0 (datum.Bytes world)) refl tt)
     (reply.Tree (given.File (file 5)), opened_by_two 5, refl, refl, refl)
 
-second_gave : IsGave plain two 1 (accepted_later ∷ kept_later_at 3 2 ∷ kept_later_at 2 1 ∷ kept_later_at 1 0 ∷ begun_later 1 ∷ opened_by_two 5 ∷ []) block false (write.Acked 2 7)
+pub second_gave : IsGave plain two 1 (accepted_later ∷ kept_later_at 3 2 ∷ kept_later_at 2 1 ∷ kept_later_at 1 0 ∷ begun_later 1 ∷ opened_by_two 5 ∷ []) block false (write.Acked 2 7)
 second_gave =
     let start = Went _ _ (Replied (reply.Begun 2 1)) (begun_later 1 ∷ []) second_opened (reply.Begun 2 1, begun_later 1, refl, refl, refl) in
     let one_kept = Went _ _ (Answered true (answer.Keep keep.Kept)) (kept_later_at 1 0 ∷ []) start (Through (answer.Keep keep.Kept) (kept_later_at 1 0) refl) in
@@ -77,7 +77,7 @@ moved_got =
 abbrev with_second : List Event
 with_second = kept_later_at 3 2 ∷ kept_later_at 2 1 ∷ kept_later_at 1 0 ∷ begun_later 1 ∷ opened_by_two 5 ∷ looked ∷ opened 5 ∷ with_write
 
-legal_looked : IsLegal plain (looked ∷ opened 5 ∷ with_write)
+pub legal_looked : IsLegal plain (looked ∷ opened 5 ∷ with_write)
 legal_looked = (
   (legal_write, record { room = lit< tt; word = tt; row = record { told = open_again } }),
   record { room = lit< tt; word = tt; row = record { live = refl; block = lit< tt; told = refl } },
@@ -162,7 +162,7 @@ legal_moved = (
 
 -- A write that is revoked.
 
-abbrev later : Begun
+abbrev pub later : Begun
 later = record { by = two; key = block; base = 0; text = world }
 
 revoked_gave : IsGave plain one 2 (revoked_by ∷ of_actor one with_passed) block false (write.Revoked 2)

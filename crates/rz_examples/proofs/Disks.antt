@@ -61,7 +61,7 @@ spare_keeps p b = elim (bits_14 p b) [
 none_below : (p n : ℕ) → p < 0 → ⊥
 none_below p n less = absurd (omega (arith, less))
 
-legal_spare : IsLegal plain with_spare
+pub legal_spare : IsLegal plain with_spare
 legal_spare = (
   (
     (
@@ -124,7 +124,7 @@ fenced_gave =
       asks = refl;
     }
 
-legal_others : IsLegal plain with_others
+pub legal_others : IsLegal plain with_others
 legal_others = (
   (
     (

@@ -13,5 +13,6 @@ pub mod Starts
 pub mod Rooms
 pub mod Locks
 pub mod Twice
+pub mod Fronts
 pub mod Refusals
 pub mod Ranges

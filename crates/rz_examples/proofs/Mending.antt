@@ -40,7 +40,7 @@ pub one_key : (t : Bool) (key : Key) (p : Published) (f : Facts) → same_key ke
 one_key true key p f q e = q
 one_key false key p f q e = cc
 
-is_listed_one : (key : Key) (p : Published) → IsListed (facts with_disk) (of_word Export with_disk) 1 key p → same_key key block ≡ true
+pub is_listed_one : (key : Key) (p : Published) → IsListed (facts with_disk) (of_word Export with_disk) 1 key p → same_key key block ≡ true
 is_listed_one key p li = one_key (same_key key block) key p (facts with_disk) refl li.told
 
 pub same_is : (key at : Key) → same_key key at ≡ true → key ≡ at

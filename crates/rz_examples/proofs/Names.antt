@@ -25,6 +25,7 @@ use Rattle.rz_examples.specs.Ranged.{with_range}
 use Rattle.rz_examples.specs.Fences.{above_published, with_above}
 use Rattle.rz_examples.specs.Crashes.{with_start}
 use Rattle.rz_examples.specs.Locked.{updated}
+use Rattle.rz_examples.specs.Answers.{with_next, with_other_disk}
 
 -- an empty map has no entries
 pub no_entries : {K : Type 0} (R : K → K → Ordering) (X : Type 0) → maps.entries (maps.empty {X = X} {R = R}) ≡ []
@@ -88,6 +89,15 @@ open_mended = simp maps_answer refl
 
 pub unlink_reply : reply.Gone (Some (file 5)) ≡ names_reply (export_of plain (facts with_write) (of_word Export with_write)) (call.Unlink path)
 unlink_reply = simp maps_answer refl
+
+pub unlink_replaced : reply.Gone (Some (file 5)) ≡ names_reply (export_of plain (facts with_other_disk) (of_word Export with_other_disk)) (call.Unlink path)
+unlink_replaced = simp maps_answer refl
+
+pub open_opened : reply.File (file 5) ≡ names_reply (export_of plain (facts (opened 5 ∷ with_write)) (of_word Export (opened 5 ∷ with_write))) (call.OpenFile path)
+open_opened = simp maps_answer refl
+
+pub open_next : reply.File (file 4101) ≡ names_reply (export_of plain (facts with_next) (of_word Export with_next)) (call.OpenFile path)
+open_next = simp maps_answer refl
 
 pub unlink_opened : reply.Gone (Some (file 5)) ≡ names_reply (export_of plain (facts (opened 5 ∷ with_write)) (of_word Export (opened 5 ∷ with_write))) (call.Unlink path)
 unlink_opened = simp maps_answer refl

@@ -117,7 +117,7 @@ legal_short_read = (
 )
 
 -- no lesser key is held than the first block
-none_less : (t : Bool) (at : Key) → IsLess at block → same_key at block ≡ t → cond {A = List ℕ} t (1 ∷ []) [] ≡ []
+pub none_less : (t : Bool) (at : Key) → IsLess at block → same_key at block ≡ t → cond {A = List ℕ} t (1 ∷ []) [] ≡ []
 none_less false at less same = refl
 none_less true at less same = absurd (not_less at same less)
 

@@ -27,7 +27,7 @@ with_next =
 
 -- a range of the first block is read
 abbrev pub part_found : List Event
-part_found = e.Got one 3 block true (read.Found 1 hello) ∷ fetched_at 2 1 ∷ fetched_at 1 0 ∷ looked ∷ opened 5 ∷ with_next
+part_found = e.Got one 3 block true (read.Found 1 hello) ∷ fetched_at 2 1 ∷ fetched_at 1 0 ∷ looked ∷ opened 4101 ∷ with_next
 
 -- and the bytes that are answered are those of the next one
 abbrev pub read_elsewhere : List Event
@@ -62,11 +62,13 @@ made_by_rebuilder = e.Done mender 1 (answers.Created 1) ∷ e.Meta mender (call.
 
 -- Drops.
 
--- node 4 has a new disk, and refuses a drop as if it were a write below its fence
+-- node 4 has a new disk
+abbrev pub with_other_disk : List Event
+with_other_disk = e.Replace mender 4 1 2 ∷ e.Enroll mender 4 1 2 ∷ e.Probe mender 4 (Some 1) ∷ e.Lose 4 1 ∷ with_write
+
+-- and refuses a drop as if it were a write below its fence
 abbrev pub refused_drop : List Event
-refused_drop =
-    e.Refused one 4 why.Fenced 2 ∷ dropped_at 3 ∷ dropped_at 2 ∷ dropped_at 1 ∷ gone ∷ e.Replace mender 4 1 2 ∷ e.Enroll mender 4 1 2
-    ∷ e.Probe mender 4 (Some 1) ∷ e.Lose 4 1 ∷ with_write
+refused_drop = e.Refused one 4 why.Fenced 2 ∷ dropped_at 3 ∷ dropped_at 2 ∷ dropped_at 1 ∷ gone ∷ with_other_disk
 
 -- and that node is passed over
 abbrev pub fenced_drop : List Event

@@ -7,6 +7,7 @@ pub mod Fences
 pub mod Menders
 pub mod Crashes
 pub mod Full
+pub mod Mistake
 pub mod Mistakes
 pub mod Answers
 pub mod Ranged

@@ -56,13 +56,13 @@ stale_look = looked ∷ with_both
 abbrev pub older_stamp : List Event
 older_stamp =
     e.Got one 3 block false (read.Found 1 hello)
-    ∷ fetched_at 2 1 ∷ fetched_at 1 0 ∷ e.Look one block (Some world_published) ∷ opened 5 ∷ with_both
+    ∷ fetched_at 2 1 ∷ fetched_at 1 0 ∷ e.Look one block (Some world_published) ∷ with_both
 
 -- a read joins records of two writes
 abbrev pub joined : List Event
 joined =
     e.Got one 3 block false (read.Found 2 world) ∷ fetched_at 2 1 ∷ e.Fetch one 1 block 0 2 (Some world_record)
-    ∷ e.Look one block (Some world_published) ∷ opened 5 ∷ with_both
+    ∷ e.Look one block (Some world_published) ∷ with_both
 
 -- a lost node gives a record
 abbrev pub from_lost : List Event

@@ -44,9 +44,9 @@ abbrev pub second_write : List Event
 second_write =
     gave_later ∷ accepted_later ∷ kept_later_at 3 2 ∷ kept_later_at 2 1 ∷ kept_later_at 1 0 ∷ begun_later 1 ∷ opened_by_two 5 ∷ []
 
--- both writes are acknowledged
+-- both writes are acknowledged, the second one after a reader opened the file
 abbrev pub with_both : List Event
-with_both = second_write ++ with_write
+with_both = second_write ++ opened 5 ∷ with_write
 
 -- A read that moved: the second write comes between its look and its fetches.
 

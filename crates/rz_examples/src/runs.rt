@@ -1,5 +1,6 @@
 //! Histories of two runs of the program.
 
+ghost use Rattle.std.specs.Prelude.{[]};
 ghost use Rattle.rz_core.specs.Legal.{IsLegalAfter};
 ghost use Rattle.rz_examples.specs.Plain.{plain};
 ghost use Rattle.rz_examples.specs.Ordinary.{with_keeps, with_begin};
@@ -12,7 +13,10 @@ pub fn second_run()
     rz_core::one_run();
 }
 
-/// A message is lost of an operation that the first run left open. This is not legal.
+/// A message is lost of an operation that the first run left open. This is not legal, and all before it is.
 pub fn operation_taken_over()
-    ensures { ¬ IsLegalAfter plain with_begin taken_over }
-{}
+    ensures legal { IsLegalAfter plain with_begin [] }
+    ensures mistaken { ¬ IsLegalAfter plain with_begin taken_over }
+{
+    rz_core::one_run();
+}
