@@ -71,7 +71,7 @@ module _ (v : Volume) (old xs : List Event) (by : Actor) (at : Key) (text : List
             ∙ ap (λ c. cond (same_key key at) (Some text) c) (before.blocks key);
       }
 
-  ended : (end : WriteEnd) → IsLegalInRuns v (xs ++ old) → IsEnded by xs at text end → IsSame (model_put v.layout end at text (model_of v old)) (model_of v (xs ++ old))
+  pub ended : (end : WriteEnd) → IsLegalInRuns v (xs ++ old) → IsEnded by xs at text end → IsSame (model_put v.layout end at text (model_of v old)) (model_of v (xs ++ old))
   ended (write.Acked stamp mask) legal is = acknowledged stamp mask legal is
   ended end legal is = let same = still v xs old legal is in record { names = same.names; blocks = same.blocks }
 

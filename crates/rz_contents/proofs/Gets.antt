@@ -170,7 +170,7 @@ turn layout by number xs (Ending a) still t ys step = subst (λ u. IsGet by (ys 
 turn layout by number xs Over is t ys step = absurd step
 turn layout by number xs (_) is t ys step = absurd is
 
-gets : (layout : Layout) (by : Actor) (number : ℕ) (path : List ℕ) (block : ℕ) (xs : List Event) (work : Work)
+pub gets : (layout : Layout) (by : Actor) (number : ℕ) (path : List ℕ) (block : ℕ) (xs : List Event) (work : Work)
     → IsCourseFrom layout by number (Opening path (OnBlock (GetBlock block))) xs work → IsGet by xs work
 gets layout by number path block xs work (Starts) = (tt, (block, refl))
 gets layout by number path block xs work (Goes before was t ys course step) =
@@ -183,12 +183,12 @@ pub record IsInside (by : Actor) (xs old : List Event) : Type 0 where
   pub there : more ++ before_look by (xs ++ old) ≡ xs ++ old
   pub still : IsStill more
 
-same_actor-refl : (a : Actor) → same_actor a a ≡ true
+pub same_actor-refl : (a : Actor) → same_actor a a ≡ true
 same_actor-refl (Client a) = eq-eqb a a refl
 same_actor-refl (Rebuilder a) = eq-eqb a a refl
 same_actor-refl Admin = refl
 
-inside : (by : Actor) (xs old : List Event) → IsStill xs → HasLook by xs → IsInside by xs old
+pub inside : (by : Actor) (xs old : List Event) → IsStill xs → HasLook by xs → IsInside by xs old
 inside by [] old still look = absurd look.2
 inside by (e.Look a key answer ∷ xs) old still look = go (same_actor by a) refl (λ rest. inside by xs old still.1 rest)
   where

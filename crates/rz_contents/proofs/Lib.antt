@@ -8,3 +8,9 @@ pub mod Stillness
 pub mod Mending
 pub mod Removing
 pub mod Ranges
+pub mod Opened
+pub mod Called
+pub mod Watched
+pub mod PutCauses
+pub mod GetCauses
+pub mod Sizes

@@ -5,3 +5,6 @@ pub mod Getting
 pub mod Mending
 pub mod Removing
 pub mod Ranges
+pub mod Files
+pub mod Causes
+pub mod Sizes

@@ -16,10 +16,15 @@
 //! - [`writes_patch`], [`writes_together`], [`reads_text`], [`reads_together`]: ranges of bytes. A block's
 //!   text that is put with some bytes patched in writes exactly these bytes of its file, and what a block's
 //!   text has are the bytes of its file, block by block.
+//! - [`leads_to_block`], [`put_watched`], [`get_watched`], [`calls_watched`]: the same of an operation that stands
+//!   anywhere, so that one which is cut off is known too: to which file its path led, and what it has made of the
+//!   store. A call on names does to them what it says as soon as it is replied to.
+//! - [`puts_caused`], [`gets_caused`]: why a put or a get beside which nobody acts did not end well.
+//! - [`covered`]: the text of a block is no longer than a block, and ends where its file does or before.
 //!
 //! In reading order: `Contents` has blocks, `Model` the store as users see it, `Putting`, `Getting`,
-//! `Mending` and `Removing` the single operations, and `Ranges` ranges of bytes. The functions have no code. What each one says is its
-//! clause.
+//! `Mending`, `Removing` and `Files` the single operations, `Causes` why one did not end well, `Ranges` ranges
+//! of bytes and `Sizes` where texts end. The functions have no code. What each one says is its clause.
 #![tactic(auto)]
 
 ghost use Rattle.std.specs.Prelude.{List};
@@ -32,6 +37,9 @@ ghost use Rattle.rz_contents.specs.Putting.{IsPutAlone};
 ghost use Rattle.rz_contents.specs.Getting.{IsGetAlone};
 ghost use Rattle.rz_contents.specs.Mending.{IsRebuildAlone};
 ghost use Rattle.rz_contents.specs.Removing.{StaysGone};
+ghost use Rattle.rz_contents.specs.Files.{LeadsToBlock, IsPutWatched, IsGetWatched, IsCallWatched};
+ghost use Rattle.rz_contents.specs.Causes.{ArePutsCaused, AreGetsCaused};
+ghost use Rattle.rz_contents.specs.Sizes.{AreCovered};
 ghost use Rattle.rz_contents.specs.Ranges.{WritesPatch, WritesTogether, ReadsText, ReadsTogether};
 
 /// In a legal log an accepted publish puts the text of its write into the block, and no other event
@@ -113,4 +121,43 @@ pub fn reads_text()
 /// Bytes that are read behind one another are read together.
 pub fn reads_together()
     ensures { ReadsTogether }
+{}
+
+/// An operation on a block has the one in hand to which its path led, or it answers why the path led to none.
+pub fn leads_to_block()
+    ensures { (v : Volume) → LeadsToBlock v }
+{}
+
+/// A put beside which nobody acts has changed nothing until it is acknowledged, and then its block alone and
+/// the size of its file.
+pub fn put_watched()
+    ensures { (v : Volume) → IsPutWatched v }
+{}
+
+/// A get beside which nobody acts changes nothing, however far it came.
+pub fn get_watched()
+    ensures { (v : Volume) → IsGetWatched v }
+{}
+
+/// A call on names beside which nobody acts has changed nothing until it is replied to. Then the names are
+/// those after the call, and nothing that comes of it later changes them.
+pub fn calls_watched()
+    ensures { (v : Volume) → IsCallWatched v }
+{}
+
+/// A put beside which nobody acts is denied for a block past the longest file's end or for want of numbers, and
+/// nobody overtakes it.
+pub fn puts_caused()
+    ensures { (v : Volume) → ArePutsCaused v }
+{}
+
+/// A get beside which nobody acts is denied for a block past the longest file's end, and tells that too few nodes
+/// gave their record where more of the published positions did not than can be spared.
+pub fn gets_caused()
+    ensures { (v : Volume) → AreGetsCaused v }
+{}
+
+/// The text of a block is no longer than a block, and ends where its file does or before.
+pub fn covered()
+    ensures { (v : Volume) → AreCovered v }
 {}
