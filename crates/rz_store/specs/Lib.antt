@@ -1,1 +1,5 @@
 pub mod Opened
+pub mod Store
+pub mod Causes
+pub mod Outcomes
+pub mod Names

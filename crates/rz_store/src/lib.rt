@@ -10,6 +10,18 @@ ghost use Rattle.rz_store.specs.Opened.{IsOpenedLaw, IsReadyLaw};
 
 use rz_disk::Disk;
 
+mod blocks;
+mod faults;
+mod names;
+mod ranges;
+mod store;
+mod texts;
+
+pub use faults::{NameFault, ReadFault, WriteFault};
+pub use ranges::ShortWrite;
+pub use rz_store_turns::Stop;
+pub use store::Store;
+
 /// A node that was opened on a disk whose text stands for what a log says of it is one that was opened after
 /// that log.
 pub fn opened<D: Disk>()
