@@ -18,7 +18,7 @@ use Rattle.rz_core.specs.NodeRows.{IsNodeOf}
 use Rattle.rz_core.specs.NodeWord.{phase}
 use Rattle.rz_nodes.specs.Opened.{AreDisksBack}
 use Rattle.rz_nodes.specs.declared.refusal.OpenRefusal.TheVariants.{Open}
-use Rattle.rz_driver.specs.Continued.{AreLeft, IsCauseAgain}
+use Rattle.rz_driver.specs.Continued.{AllOpen, AreLeft, IsCauseAgain}
 use Rattle.rz_restart_laws.specs.Earlier.{IsEarlier, IsRestarted}
 use Rattle.rz_script.specs.declared.line.Line.{Line}
 use Rattle.rz_node_model.specs.States.{NodeState}
@@ -138,15 +138,16 @@ pub record IsGoneOn {D : Type 0} (tells : Bool) (meter : D → Meter) (image : D
   pub journal_told : IsJournalLeft tells meter image (λ c. IsStoppedOver tells v (JournalRefused c) (world_after played.nodes played.export old) lines lost (h ++ old)) end v journal journal_back (h ++ old)
   pub next : LeavesNext end (MayBeResumed image v (h ++ old) (nodes_back ++ journal_back ∷ []))
 
--- The disks of the nodes, and behind them that of the journal, which were used again. Over disks that tell their texts the play
--- went on after each earlier log that the disks stood for. Over others the faults of the nodes are told by the log alone.
-pub record AreUsedAgain {D : Type 0} (tells : Bool) (meter : D → Meter) (image : D → List ℕ → Type 0) (end : PlayEnd) (v : Volume) (lines : List Line) (lost : ℕ) (old new : List D) (h : List Event) : Type 0 where
+-- The disks of the nodes, and behind them that of the journal, which were used again: each of them opened. Over disks that tell their
+-- texts the play went on after each earlier log that the disks stood for. Over others the faults of the nodes are told by the log alone.
+pub record AreUsedAgain {D : Type 0} (tells : Bool) (text : D → List ℕ) (meter : D → Meter) (image : D → List ℕ → Type 0) (end : PlayEnd) (v : Volume) (lines : List Line) (lost : ℕ) (old new : List D) (h : List Event) : Type 0 where
   pub nodes : List D
   pub journal : D
   pub old_are : old ≡ nodes ++ journal ∷ []
   pub nodes_back : List D
   pub journal_back : D
   pub new_are : new ≡ nodes_back ++ journal_back ∷ []
+  pub opened : AllOpen tells text v old
   pub untold : tells ≡ false → AreFaultsTold meter v old nodes_back h
   pub goes_on : IsTrue tells → (earlier : List Event) → IsEarlier v earlier → AreLeft image v earlier old
       → IsGoneOn tells meter image end v lines lost earlier old journal nodes_back journal_back h
@@ -156,7 +157,7 @@ pub record AreUsedAgain {D : Type 0} (tells : Bool) (meter : D → Meter) (image
 abbrev pub AreBackAgain : {D : Type 0} → Bool → (D → List ℕ) → (D → Meter) → (D → List ℕ → Type 0) → Course → Volume → List Line → ℕ → List D → List D → List Event → Type 0
 AreBackAgain tells text meter image Unplayed v lines lost old new h = AreDisksBack meter text image old new
 AreBackAgain tells text meter image (Unopened index cause) v lines lost old new h = AreDisksBack meter text image old new × IsCauseAgain tells meter text image v old new (Open index cause)
-AreBackAgain tells text meter image (Performed end later) v lines lost old new h = AreUsedAgain tells meter image end v lines lost old new h
+AreBackAgain tells text meter image (Performed end later) v lines lost old new h = AreUsedAgain tells text meter image end v lines lost old new h
 
 -- the disks of a request that was played, which for `first` and `again` are one more than the nodes
 abbrev pub AreBackFrom : {D : Type 0} → Bool → (D → List ℕ) → (D → Meter) → (D → List ℕ → Type 0) → Course → Wish → Volume → List Line → (lost : ℕ) → List D → List D → List Event → Type 0

@@ -5,7 +5,7 @@ use Rattle.rz_disk.specs.Meter.{faults, Rises as HasRisen}
 use Rattle.rz_disk.specs.UnderFuse.{UnderFuse}
 use Rattle.rz_driver_actors.specs.declared.shared.Shared.{Shared}
 use Rattle.rz_driver.proofs.FetchLemmas.{asked-counted}
-use Rattle.rz_driver.specs.Continued.{AreLeft, IsCauseAgain}
+use Rattle.rz_driver.specs.Continued.{AllOpen, AreLeft, IsCauseAgain}
 use Rattle.rz_driver.specs.Endings.{EndsAsRefused, StandsForLog}
 use Rattle.rz_driver.specs.Worlds.{HasCounted, HoldsBetweenTurns, LeavesAtEnd, left_behind, tells-known, world_of}
 use Rattle.rz_restart_laws.specs.Earlier.{IsEarlier, IsRestarted}
@@ -109,6 +109,12 @@ module _ (g : given.Over) (c : goal.After-drop-disks g) where
       let K : Volume → List g.row.D.Denot → Type 0 = λ v xs. IsTrue g.D.Disk.tells → (h : List Event) → IsEarlier v h → AreLeft g.D.Disk.image v h xs
       → (old : List Event) × IsRestarted v h old × HoldsBetweenTurns c.in-Ok.driver (left_behind (faults_at g.D.Disk.meter xs) old) in
       subst (λ (v : Volume). K v c.args.disks.now.items) c.volume-volume.ensures (subst (λ (xs : List g.row.D.Denot). K c.volume-volume.result.now xs) lent c.in-Ok.ensures.held)
+
+  -- each of the disks opened
+  opened : AllOpen g.D.Disk.tells g.D.Disk.text volume c.args.disks.now.items
+  opened =
+      let K : Volume → List g.row.D.Denot → Type 0 = λ v xs. AllOpen g.D.Disk.tells g.D.Disk.text v xs in
+      subst (λ (v : Volume). K v c.args.disks.now.items) c.volume-volume.ensures (subst (λ (xs : List g.row.D.Denot). K c.volume-volume.result.now xs) lent c.in-Ok.ensures.open)
 
   -- over others it holds with any
   untold : g.D.Disk.tells ≡ false → HoldsBetweenTurns c.in-Ok.driver (left_behind counts [])
@@ -249,13 +255,14 @@ returns-in-Ok g c =
     let split = split-last (length (nodes_of (volume g c).clusters)) old c.requires.count in
     let disk = has-disk c.perform-status.new.stage.shared.export (c.perform-status.ensures.journal ∙ c.in-Ok.ensures.journal) in
     let new_is : new ≡ back g c ++ disk.0 ∷ [] = c.close-log.ensures.disks ∙ ap (λ (d : Option g.row.D.Denot). back g c ++ option_to_list d) disk.1 in
-    let used : AreUsedAgain g.D.Disk.tells g.D.Disk.meter g.D.Disk.image (end g c) (volume g c) lines (lost g c) old new (log g c) = record {
+    let used : AreUsedAgain g.D.Disk.tells g.D.Disk.text g.D.Disk.meter g.D.Disk.image (end g c) (volume g c) lines (lost g c) old new (log g c) = record {
       nodes = split.0;
       journal = split.1;
       old_are = split.2;
       nodes_back = back g c;
       journal_back = disk.0;
       new_are = new_is;
+      opened = opened g c;
       untold = λ silent. counted g c [] (untold g c silent);
       goes_on = λ telling earlier is are.
           let on = went_on g c telling earlier is are in
@@ -272,7 +279,7 @@ returns-in-Ok g c =
             next = subst (λ (xs : List g.row.D.Denot). LeavesNext (end g c) (MayBeResumed g.D.Disk.image (volume g c) (log g c ++ on.0) xs)) new_is (next_run g c on.0 on.2 telling);
           };
     } in
-    let U : List Event → Type 0 = λ h. AreUsedAgain g.D.Disk.tells g.D.Disk.meter g.D.Disk.image (end g c) (volume g c) lines (lost g c) old new h in
+    let U : List Event → Type 0 = λ h. AreUsedAgain g.D.Disk.tells g.D.Disk.text g.D.Disk.meter g.D.Disk.image (end g c) (volume g c) lines (lost g c) old new h in
     let own : TellsOwn (end g c) c.args.request.now.wish later (log g c) sink c.perform-status.result =
     told_own (HoldsBetweenTurns c.in-Ok.driver) g.D.Disk.tells (volume g c) (world_of c.in-Ok.driver) lines c.args.request.now.wish (end g c) later (lost g c) (log g c) sink c.perform-status.result
     c.perform-status.ensures.performed.4 in
