@@ -4,7 +4,7 @@ ghost use Rattle.std.specs.Prelude.{◌≡◌, IsTrue, length};
 ghost use Rattle.mj_angles.specs.declared.layout.Layout.TheVariants.{L0};
 ghost use Rattle.rz_events.specs.declared.machines.FileAnswer.{FileAnswer as AnAnswer};
 ghost use Rattle.rz_operation_model.specs.Files.{IsFileAnswer};
-ghost use Rattle.rz_file.specs.Machine.{ComeWith, IsKeep};
+ghost use Rattle.rz_file.specs.Machine.{ComeWith, IsKeepAsked};
 
 use mj_angles::Layout;
 use rz_events::{
@@ -167,7 +167,7 @@ fn check_end(rt: &impl Abort, machine: &FileMachine, end: FileEnd) {
 
 /// Whether a node is asked to keep a record.
 fn is_keep(ask: FileAsk) -> bool
-    ensures { IsTrue result → IsKeep ask }
+    ensures { IsTrue result → IsKeepAsked ask }
 {
     matches!(
         ask,

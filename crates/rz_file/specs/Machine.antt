@@ -178,15 +178,15 @@ abbrev pub IsWriterIn : FileState → WriterState → Type 0
 IsWriterIn (Writes r text s) writer = (writer ≡ s) × IsWrite s × (s.length ≡ length text)
 IsWriterIn state writer = ⊥
 
-abbrev pub IsReading : FileAsk → Type 0
-IsReading (ask.Read block question) = Unit {0}
-IsReading (ask.Got block m) = Unit {0}
-IsReading question = ⊥
+abbrev pub IsReadAsked : FileAsk → Type 0
+IsReadAsked (ask.Read block question) = Unit {0}
+IsReadAsked (ask.Got block m) = Unit {0}
+IsReadAsked question = ⊥
 
-abbrev pub IsWriting : FileAsk → Type 0
-IsWriting (ask.Write block question) = Unit {0}
-IsWriting (ask.Gave block e) = Unit {0}
-IsWriting question = ⊥
+abbrev pub IsWriteAsked : FileAsk → Type 0
+IsWriteAsked (ask.Write block question) = Unit {0}
+IsWriteAsked (ask.Gave block e) = Unit {0}
+IsWriteAsked question = ⊥
 
 -- What calls need.
 
@@ -204,9 +204,9 @@ abbrev pub IsKeepIn : WriterAsk → Type 0
 IsKeepIn (writes.Keep position node stamp base) = Unit {0}
 IsKeepIn question = ⊥
 
-abbrev pub IsKeep : FileAsk → Type 0
-IsKeep (ask.Write block question) = IsKeepIn question
-IsKeep question = ⊥
+abbrev pub IsKeepAsked : FileAsk → Type 0
+IsKeepAsked (ask.Write block question) = IsKeepIn question
+IsKeepAsked question = ⊥
 
 -- the bins are those of the text that is written, at the position that was asked
 abbrev pub AreBinsAt : Layout → List ℕ → WriterAsk → List ℕ → Type 0

@@ -3,7 +3,7 @@
 ghost use Rattle.std.specs.Prelude.{◌≡◌, ◌<◌, ◌+◌, ◌^◌, IfOk, length};
 ghost use Rattle.mj_angles.specs.Layout.{safe_of};
 ghost use Rattle.rz_operation_model.specs.Files.{IsFileAnswer, file_ask, file_end, read_start, write_start};
-ghost use Rattle.rz_file.specs.Machine.{FitsIfEnough, IsUnderWay, IsKeep, AreBins, ComeWith, machine_with, bytes_in, text_in};
+ghost use Rattle.rz_file.specs.Machine.{FitsIfEnough, IsUnderWay, IsKeepAsked, AreBins, ComeWith, machine_with, bytes_in, text_in};
 
 use crate::{FileMachine, FilePlan};
 use mj_angles::Layout;
@@ -98,7 +98,7 @@ impl FileWrite {
 
     /// The bins of the position that the write of the block in hand asks a node to keep.
     pub fn bins(&self) -> &[u64]
-        requires { IsKeep (file_ask self.now.state) }
+        requires { IsKeepAsked (file_ask self.now.state) }
         ensures { AreBins self.now result.now }
     {
         self.machine.bins()

@@ -2,7 +2,7 @@
 
 ghost use Rattle.std.specs.Prelude.{◌≡◌, length};
 ghost use Rattle.rz_operation_model.specs.Files.{IsFileAnswer, file_ask, file_end, go_on};
-ghost use Rattle.rz_file.specs.Machine.{FitsIfEnough, IsUnderWay, IsLaidOut, IsAskOf, IsKeep, AreBins, IsCountIn, IsTextLong, ComeWith, IsEndIn, IsReaderIn, IsWriterIn, IsReading, IsWriting, machine_with, aim_in, bytes_in, text_in, is_taking};
+ghost use Rattle.rz_file.specs.Machine.{FitsIfEnough, IsUnderWay, IsLaidOut, IsAskOf, IsKeepAsked, AreBins, IsCountIn, IsTextLong, ComeWith, IsEndIn, IsReaderIn, IsWriterIn, IsReadAsked, IsWriteAsked, machine_with, aim_in, bytes_in, text_in, is_taking};
 ghost use Rattle.rz_file.specs.Inside.{IsSpan, AreHands, range_in};
 
 use crate::answers::after;
@@ -58,7 +58,7 @@ impl FileMachine {
 
     /// The bins of the position that the write of the block in hand asks a node to keep.
     pub fn bins(&self) -> &[u64]
-        requires { IsKeep (file_ask self.now.state) }
+        requires { IsKeepAsked (file_ask self.now.state) }
         ensures bins { AreBins self.now result.now }
         ensures count { IsCountIn self.now.layout (file_ask self.now.state) result.now }
     {
@@ -136,7 +136,7 @@ impl FileMachine {
 
     /// The read of the block in hand.
     pub fn reader(&self) -> &ReaderState
-        requires { IsReading (file_ask self.now.state) }
+        requires { IsReadAsked (file_ask self.now.state) }
         ensures { IsReaderIn self.now.state result.now }
     {
         self.reader.state()
@@ -144,7 +144,7 @@ impl FileMachine {
 
     /// The write of the block in hand.
     pub fn writer(&self) -> &WriterState
-        requires { IsWriting (file_ask self.now.state) }
+        requires { IsWriteAsked (file_ask self.now.state) }
         ensures { IsWriterIn self.now.state result.now }
     {
         self.writer.state()

@@ -3,7 +3,7 @@
 ghost use Rattle.std.specs.Prelude.{◌≡◌};
 ghost use Rattle.rz_operation_model.specs.Ask.{ask_of};
 ghost use Rattle.rz_operation_model.specs.Steps.{Replied, Locked, Missed, Noted};
-ghost use Rattle.rz_operation_states.specs.Answers.{IsReply, IsLockReply, IsAnswer, ComeWith, MayMiss, IsPartSaid, IsWorkAfter, FitsIfEnough, IsDrop, IsKeep, IsTreeReply};
+ghost use Rattle.rz_operation_states.specs.Answers.{IsReply, IsLockReply, IsAnswer, ComeWith, MayMiss, IsPartSaid, IsWorkAfter, FitsIfEnough, IsDropGiven, IsKeepGiven, IsTreeReply};
 ghost use Rattle.rz_operation_states.specs.Machine.{text_of};
 ghost use Rattle.rz_operation_states.specs.Inside.{IsOperationState, IsDoneStage, IsAnswerIn, machine_of, work_of};
 
@@ -213,7 +213,7 @@ pub fn answer_in(stage: OperationState) -> Answer
 
 /// The answer to a keep.
 fn keep_answer(answer: NodeAnswer) -> KeepAnswer
-    requires { IsKeep answer }
+    requires { IsKeepGiven answer }
     ensures { NodeAnswer.Keep result ≡ answer }
 {
     let NodeAnswer::Keep(answer) = answer else {
@@ -224,7 +224,7 @@ fn keep_answer(answer: NodeAnswer) -> KeepAnswer
 
 /// The answer to a drop.
 fn drop_answer(answer: NodeAnswer) -> DropAnswer
-    requires { IsDrop answer }
+    requires { IsDropGiven answer }
     ensures { NodeAnswer.Drop result ≡ answer }
 {
     let NodeAnswer::Drop(answer) = answer else {

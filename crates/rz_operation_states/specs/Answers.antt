@@ -118,33 +118,33 @@ abbrev pub IsFetchGiven : NodeAnswer → Type 0
 IsFetchGiven (answer.Fetch a) = Unit {0}
 IsFetchGiven a = ⊥
 
-abbrev pub IsKeep : NodeAnswer → Type 0
-IsKeep (answer.Keep a) = Unit {0}
-IsKeep a = ⊥
+abbrev pub IsKeepGiven : NodeAnswer → Type 0
+IsKeepGiven (answer.Keep a) = Unit {0}
+IsKeepGiven a = ⊥
 
-abbrev pub IsDrop : NodeAnswer → Type 0
-IsDrop (answer.Drop a) = Unit {0}
-IsDrop a = ⊥
+abbrev pub IsDropGiven : NodeAnswer → Type 0
+IsDropGiven (answer.Drop a) = Unit {0}
+IsDropGiven a = ⊥
 
-abbrev pub IsProbe : NodeAnswer → Type 0
-IsProbe (answer.Probe a) = Unit {0}
-IsProbe a = ⊥
+abbrev pub IsProbeGiven : NodeAnswer → Type 0
+IsProbeGiven (answer.Probe a) = Unit {0}
+IsProbeGiven a = ⊥
 
-abbrev pub IsReplace : NodeAnswer → Type 0
-IsReplace (answer.Replace a) = Unit {0}
-IsReplace a = ⊥
+abbrev pub IsReplaceGiven : NodeAnswer → Type 0
+IsReplaceGiven (answer.Replace a) = Unit {0}
+IsReplaceGiven a = ⊥
 
-abbrev pub IsRefill : NodeAnswer → Type 0
-IsRefill (answer.Refill a) = Unit {0}
-IsRefill a = ⊥
+abbrev pub IsRefillGiven : NodeAnswer → Type 0
+IsRefillGiven (answer.Refill a) = Unit {0}
+IsRefillGiven a = ⊥
 
 abbrev pub IsAnswerTo : Layout → NodeAsk → NodeAnswer → Type 0
-IsAnswerTo layout (ask.Keep head) a = IsKeep a
+IsAnswerTo layout (ask.Keep head) a = IsKeepGiven a
 IsAnswerTo layout (ask.Fetch key position stamp) a = IsFetchedAt layout position a
-IsAnswerTo layout (ask.Drop fid) a = IsDrop a
-IsAnswerTo layout ask.Probe a = IsProbe a
-IsAnswerTo layout (ask.Replace loss fence) a = IsReplace a
-IsAnswerTo layout (ask.Refill fence head) a = IsRefill a
+IsAnswerTo layout (ask.Drop fid) a = IsDropGiven a
+IsAnswerTo layout ask.Probe a = IsProbeGiven a
+IsAnswerTo layout (ask.Replace loss fence) a = IsReplaceGiven a
+IsAnswerTo layout (ask.Refill fence head) a = IsRefillGiven a
 IsAnswerTo layout question a = ⊥
 
 abbrev pub HasBinsTo : Layout → NodeAsk → NodeAnswer → List ℕ → Type 0

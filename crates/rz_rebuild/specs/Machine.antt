@@ -110,9 +110,9 @@ ComeWith layout (ask.Fetch key position of stamp) (told.Fetched a) bins = HasBin
 ComeWith layout question a bins = Unit {0}
 
 -- it asks the node to have a record as a refill
-abbrev pub IsRefill : RebuildAsk → Type 0
-IsRefill (ask.Refill fence key stamp size position base) = Unit {0}
-IsRefill a = ⊥
+abbrev pub IsRefillAsked : RebuildAsk → Type 0
+IsRefillAsked (ask.Refill fence key stamp size position base) = Unit {0}
+IsRefillAsked a = ⊥
 
 -- the bins are those of the block that was found, at the position of the node
 abbrev pub AreBinsFor : Layout → RebuildAsk → Option Grid → List ℕ → Type 0

@@ -3,7 +3,7 @@
 ghost use Rattle.std.specs.Prelude.{◌≡◌, ◌↔◌, IfOk, IsTrue, ℕ, List, length};
 ghost use Rattle.mj_angles.specs.Layout.{safe_of, max_bins_of};
 ghost use Rattle.rz_operation_model.specs.Rebuild.{IsRebuildAnswer};
-ghost use Rattle.rz_rebuild.specs.Machine.{machine_for, ask_in, end_in, IsUnderWay, IsAskOf, ComeWith, FitsIfEnough, IsRefill, AreBins, IsCountFor};
+ghost use Rattle.rz_rebuild.specs.Machine.{machine_for, ask_in, end_in, IsUnderWay, IsAskOf, ComeWith, FitsIfEnough, IsRefillAsked, AreBins, IsCountFor};
 ghost use Rattle.rz_rebuild.specs.Kinds.{IsListingAnswer};
 ghost use Rattle.rz_rebuild.specs.Inside.{IsRebuildStep, IsProjected, machine_of, state_of};
 
@@ -70,7 +70,7 @@ impl Rebuilder {
 
     /// The bins of the record that the node is to have as a refill.
     pub fn bins(&self) -> &[u64]
-        requires { IsRefill (ask_in self.now.node self.now.state) }
+        requires { IsRefillAsked (ask_in self.now.node self.now.state) }
         ensures bins { AreBins self.now result.now }
         ensures count { IsCountFor self.now.layout (ask_in self.now.node self.now.state) result.now }
     {
