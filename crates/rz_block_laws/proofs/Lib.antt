@@ -11,3 +11,4 @@ pub mod Texts
 pub mod Sayings
 pub mod Starts
 mod Acts
+mod Replies

@@ -1,5 +1,5 @@
 -- A turn of an actor, beside a log that grows.
-use Rattle.std.proofs.Common.{◌≡◌, ℕ, List, ◌++◌, sym, subst}
+use Rattle.std.proofs.Common.{◌≡◌, ℕ, List, ◌++◌, subst}
 use Rattle.mj_angles.specs.declared.layout.Layout.{Layout}
 use Rattle.rz_events.specs.Volume.{Volume}
 use Rattle.rz_events.specs.declared.keys.Actor.{Actor}
@@ -16,7 +16,7 @@ use Rattle.rz_node_model.specs.States.{NodeState}
 use Rattle.rz_node_model.specs.Afterwards.{after_answer}
 use Rattle.rz_cells_slots.specs.declared.geometry.Geometry.{Geometry}
 use Rattle.rz_node.specs.Leaves.{Leaves}
-use Rattle.rz_operation_model.specs.Ask.{Ask, AskNode, ask_of}
+use Rattle.rz_operation_model.specs.Ask.{Ask}
 use Rattle.rz_operation.specs.Answers.{IsAnswer, IsAnswerTo}
 use Rattle.rz_operation.specs.Machine.{Machine}
 use Rattle.rz_core.specs.History.{Facts, facts}
@@ -25,7 +25,7 @@ use Rattle.rz_play_laws.specs.Own.{GrowsTo, IsOwnProper}
 use Rattle.rz_node_laws.specs.Images.{IsImaged}
 use Rattle.rz_node_laws.specs.Laws.{IsFetchLaw, IsLongerLaw, IsReadBack}
 use Rattle.rz_block_laws.specs.Laws.{IsGoingLaw, IsGrowingLaw, IsMessage, IsMessageLaw, IsTakenLaw}
-use Rattle.rz_block_laws.specs.Turns.{IsTrueActor, IsLastingLaw, IsToldLaw, IsHeard, IsHeardLaw}
+use Rattle.rz_block_laws.specs.Turns.{IsTrueActor, IsLastingLaw, IsToldLaw, IsHeardLaw}
 use Rattle.rz_block_laws.proofs.Sent.{at-node}
 
 grows : ((h more : List Event) → IsPermanent h more) → (h more : List Event) → GrowsTo (facts h) (facts (more ++ h))

@@ -1,5 +1,6 @@
--- An actor's operation beside a log in which others act too. `h` has the log that the actor has seen.
-use Rattle.std.specs.Prelude.{ℕ, ◌≡◌, ◌<◌, List, length, Some}
+-- An actor's operation beside a log in which others act too. `h` has the log of this run that the actor has seen, and
+-- `earlier` the one that the run goes on after.
+use Rattle.std.specs.Prelude.{ℕ, ◌≡◌, ◌<◌, List, ◌++◌, length, Some}
 use Rattle.std.specs.List.{All}
 use Rattle.rz_events.specs.Volume.{Volume}
 use Rattle.rz_events.specs.declared.keys.Actor.{Actor}
@@ -44,7 +45,7 @@ TellsBytes f t = Unit {0}
 -- The operation.
 
 -- The actor's own events say how far its operation of this number has come, and what the machine has in hand is true.
-pub record IsActing (v : Volume) (h : List Event) (by : Actor) (number : ℕ) (m : Machine) : Type 0 where
-  pub true_to : IsTrueTo v (facts h) (of_actor by h) (of_actor by h) by m
+pub record IsActing (v : Volume) (earlier h : List Event) (by : Actor) (number : ℕ) (m : Machine) : Type 0 where
+  pub true_to : IsTrueTo v (facts (h ++ earlier)) (of_actor by (h ++ earlier)) (of_actor by h) by m
   pub way : HasOwnEvents v by number (of_actor by h) m.work
-  pub texts : KnowsTexts (facts h) m.work
+  pub texts : KnowsTexts (facts (h ++ earlier)) m.work

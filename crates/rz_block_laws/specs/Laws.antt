@@ -1,12 +1,14 @@
 -- What an operation has in hand stays true, and what it hands to a node is the record of its write. The own events of an
 -- actor say how far its operation has come.
-use Rattle.std.specs.Prelude.{ℕ, Bool, true, ◌≡◌, ◌≢◌, List, Some}
+use Rattle.std.specs.Prelude.{ℕ, Bool, true, ◌≡◌, ◌≢◌, List, ◌∷◌, Some}
 use Rattle.rz_events.specs.Volume.{Volume}
 use Rattle.rz_events.specs.declared.keys.Key.{Key}
 use Rattle.rz_events.specs.declared.keys.Actor.{Actor}
 use Rattle.rz_events.specs.declared.records.Held.{Held}
 use Rattle.rz_events.specs.declared.ends.ReadMark.TheVariants as mark
 use Rattle.rz_events.specs.declared.ends.LeftWhy.TheVariants as left
+use Rattle.rz_events.specs.declared.export.Call.{Call}
+use Rattle.rz_events.specs.declared.export.Reply.{Reply}
 use Rattle.rz_events.specs.declared.nodes.FetchAnswer.{FetchAnswer}
 use Rattle.rz_events.specs.declared.nodes.FetchAnswer.TheVariants as fetch
 use Rattle.rz_events.specs.declared.nodes.NodeAsk.{NodeAsk}
@@ -15,6 +17,7 @@ use Rattle.rz_events.specs.declared.nodes.NodeAnswer.{NodeAnswer}
 use Rattle.rz_events.specs.declared.nodes.NodeAnswer.TheVariants as answer
 use Rattle.rz_events.specs.declared.events.Event.{Event}
 use Rattle.rz_events.specs.declared.operations.Operation.{Operation}
+use Rattle.rz_export_model.specs.ExportEvents.{export_event}
 use Rattle.rz_node_model.specs.Answers.{IsNodeAnswer}
 use Rattle.rz_node_model.specs.Afterwards.{after_answer}
 use Rattle.rz_node_model.specs.NodeEvents.{node_event}
@@ -25,9 +28,10 @@ use Rattle.rz_node.specs.Fetched.{IfHeld}
 use Rattle.rz_operation_model.specs.Ask.{AskNode, Say, SayGot, SayLeft, ask_of}
 use Rattle.rz_operation_model.specs.Steps.{Told, Answered, begun, told}
 use Rattle.rz_operation_model.specs.Turns.{IsStep}
-use Rattle.rz_operation.specs.Answers.{IsWorkAfter, IsAnswer, FitsIfEnough}
+use Rattle.rz_operation.specs.Answers.{IsWorkAfter, IsAnswer, IsReplyTo, FitsIfEnough}
 use Rattle.rz_operation.specs.Machine.{Machine, HasBinsFor, AreBinsFor}
 use Rattle.rz_core.specs.History.{Facts, IsPlace}
+use Rattle.rz_core.specs.Legal.{IsLegalInRuns}
 use Rattle.rz_play_laws.specs.Own.{GrowsTo, IsOfActor, IsOwnOf, HasOwnEvents}
 use Rattle.rz_node_laws.specs.Images.{IsImaged}
 use Rattle.rz_node_laws.specs.Records.{HandsRecord}
@@ -86,6 +90,11 @@ IsTakenLaw v = (f : Facts) (m : Machine) (n cells : ℕ) (s : NodeState) (questi
     → m.layout ≡ v.layout → ask_of m.layout m.work ≡ AskNode n question → IsOfActor question → IsNodeAnswer cells s question given
     → ((r : Held) → given ≡ answer.Fetch (fetch.Held r) → (key : Key) × IsReadBack v f n key r before bins)
     → IsAnswer m.layout (ask_of m.layout m.work) given
+
+-- A reply of the export belongs to the call where its event stands in a legal log.
+abbrev pub IsRepliedLaw : Volume → Type 0
+IsRepliedLaw v = (h : List Event) (by : Actor) (c : Call) (r : Reply) (x : Event) → IsLegalInRuns v (x ∷ h) → export_event by c r ≡ Some x
+    → IsReplyTo v.layout c r
 
 -- A message to node n, with its disk before and after it: the bins are those that were handed to it, and those that came
 -- back.

@@ -4,7 +4,7 @@
 //! fits them. `InHand` says when these are the records and the block of the write that is read.
 //! `beginning`, `fetched`, `going` and `growing` say that this lasts, as long as the records that nodes
 //! give are those of their writes; `fitting` that the records then never fit no block, and `taken` that
-//! each answer is one that the machine takes. `handing` says that each record that the machine hands to
+//! each answer is one that the machine takes, and `replied` the same of each reply of the export. `handing` says that each record that the machine hands to
 //! a node, a writer's or a rebuilder's, is then that of its write. `message` has all of it for one message
 //! to a node, with the images of the node's disk. `lasting`, `told` and `heard` say the same of an actor
 //! and a log that grows.
@@ -16,8 +16,8 @@
 #![tactic(auto)]
 
 ghost use Rattle.std.specs.Prelude.{IsTrue};
-ghost use Rattle.rz_events.specs.Volume.{Volume};
-ghost use Rattle.rz_block_laws.specs.Laws.{IsHandingLaw, IsFetchedLaw, IsGoingLaw, IsGrowingLaw, IsBeginningLaw, IsFittingLaw, IsTakenLaw, IsMessageLaw};
+ghost use Rattle.rz_events.specs.Volume.{Volume, IsVolume};
+ghost use Rattle.rz_block_laws.specs.Laws.{IsHandingLaw, IsFetchedLaw, IsGoingLaw, IsGrowingLaw, IsBeginningLaw, IsFittingLaw, IsTakenLaw, IsRepliedLaw, IsMessageLaw};
 ghost use Rattle.rz_block_laws.specs.Turns.{IsLastingLaw, IsToldLaw, IsHeardLaw};
 
 pub mod acting;
@@ -62,6 +62,13 @@ pub fn fitting()
 pub fn taken()
     ensures { (v : Volume) → IsTakenLaw v }
 {}
+
+/// So does it take each reply of the export that a legal log has.
+pub fn replied()
+    ensures { (v : Volume) → IsVolume v → IsRepliedLaw v }
+{
+    rz_play_laws::facts_told();
+}
 
 /// A message of an operation to a node whose disk tells its text: the images of the disk stay the node's
 /// own, and what the operation has in hand stays true.
