@@ -20,7 +20,6 @@ use crate::telling::tell;
 use rz_chronicle::{NewBook, read_back};
 use rz_disk::Disk;
 use rz_link::Link;
-use rz_locks::Locks;
 use rz_ports::Sink;
 use rz_report::refuse_disks;
 use rz_request::Status;
@@ -29,7 +28,7 @@ use rz_shared::{Cluster, Counting};
 use rz_threads::{PlayResult, play};
 use rz_threads_worker::SharedStore;
 use std::alloc::Global;
-use std::sync::{Mutex, Wait};
+use std::sync::Wait;
 use std::thread::Threads;
 
 /// Formats the disks, lets the setup play the script, and tells what came of it.
@@ -76,7 +75,6 @@ fn play_setup<
                 cluster,
                 book,
                 volume: known,
-                locks: Mutex::new(Locks::new()),
             };
             let PlayResult {
                 front,

@@ -7,10 +7,8 @@ use denote.RattleType.{RattleType}
 use denote.Struct.Tuple.{type_at, field_at, TupleAt}
 use mathlib.Core.List.{[], ◌∷◌}
 use mir.Syntax.{Ty, Sym}
-use Rattle.std.proofs.sync.Mutex.TheSendSync as Mutex
 use Rattle.rz_disk.specs.declared.disk.Disk as Disk
 use Rattle.rz_config.proofs.volume.Volume.TheSendSync as Volume
-use Rattle.rz_locks.proofs.table.Locks.TheSendSync as Locks
 use Rattle.rz_chronicle.specs.declared.passes.Naming as Naming
 use Rattle.rz_chronicle.proofs.book.Book.TheSendSync as Book
 use Rattle.rz_shared_locked.specs.declared.counting.Metering as Metering
@@ -19,7 +17,7 @@ use Rattle.rz_threads_steps.specs.contracts.store.SharedStore as Store
 
 -- threads may share a store
 pub store_sync : (D K : RattleType) (g : Disk.Ghosts D.Denot) (m : Metering.Ghosts K.Denot) (n : Naming.Ghosts K.Denot) → IsSend D → IsSync (Store.the_row D K g m n)
-store_sync D K g m n s = recorded_sync (Store.the_field D K g m n).row _ _ (Store.the_type D K g m n).to_one (struct_sync (shape (Store.the_type D K g m n)) (cluster_sync D K g m n s, (Book.the_sync K n, (Volume.the_sync, (Mutex.the_sync _ Locks.the_send, tt)))))
+store_sync D K g m n s = recorded_sync (Store.the_field D K g m n).row _ _ (Store.the_type D K g m n).to_one (struct_sync (shape (Store.the_type D K g m n)) (cluster_sync D K g m n s, (Book.the_sync K n, (Volume.the_sync, tt))))
 
 -- a closure may go to another thread where each of its captures may
 pub four-sent : {A B C D : RattleType} {δ : Ty} (ν : Sym) → IsSend A → IsSend B → IsSend C → IsSend D

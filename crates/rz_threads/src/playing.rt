@@ -76,10 +76,8 @@ fn gather_up<D: Disk, J: Counting>(
         cluster,
         book,
         volume,
-        locks,
     } = store;
     drop(volume);
-    drop(locks);
     let mut front = admin;
     gather_all(&book, &mut front, passes);
     let disks = settled(&book, &mut front, cluster);

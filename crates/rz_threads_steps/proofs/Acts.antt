@@ -6,7 +6,6 @@ use Rattle.rz_events.specs.Volume.{Volume}
 use Rattle.rz_events.specs.declared.keys.Actor.{Actor}
 use Rattle.rz_events.specs.declared.keys.Key.{Key}
 use Rattle.rz_events.specs.declared.records.Held.{Held}
-use Rattle.rz_events.specs.declared.tree.TreeCall.TheVariants as tree
 use Rattle.rz_events.specs.declared.export.Call.{Call}
 use Rattle.rz_events.specs.declared.export.Call.TheVariants as call
 use Rattle.rz_events.specs.declared.export.Reply.{Reply}
@@ -20,15 +19,14 @@ use Rattle.rz_events.specs.declared.events.Event.{Event}
 use Rattle.rz_events.specs.declared.events.Event.TheVariants as e
 use Rattle.rz_export_model.specs.ExportEvents.{export_event}
 use Rattle.rz_node_model.specs.NodeEvents.{node_event}
-use Rattle.rz_operation_model.specs.Ask.{Ask, AskExport, AskNode, AskLock, ask_of}
+use Rattle.rz_operation_model.specs.Ask.{Ask, AskExport, AskNode, ask_of}
 use Rattle.rz_operation_model.specs.Work.{Work}
 use Rattle.rz_operation_model.specs.Steps.{Told, Replied, Locked, Answered, Missed, Noted, told}
 use Rattle.rz_operation_model.specs.Turns.{IsStep, Through, ReplyLost, RequestLost, goes_by_link}
-use Rattle.rz_operation.specs.Answers.{IsWorkAfter, FitsIfEnough, IsReply, IsReplyTo, IsLockReply, IsTreeReply}
+use Rattle.rz_operation.specs.Answers.{IsWorkAfter, FitsIfEnough, IsReply, IsReplyTo}
 use Rattle.rz_operation.specs.Machine.{Machine}
 use Rattle.rz_core.specs.History.{Facts, facts, of_actor}
 use Rattle.rz_core.proofs.Extends.{extends-more}
-use Rattle.rz_play.specs.Lines.{noted}
 use Rattle.rz_play_laws.specs.Own.{IsToldBy, AreToldBy}
 use Rattle.rz_play_laws.proofs.Telling.{told-extends}
 use Rattle.rz_block_laws.specs.Laws.{IsNoFetch}
@@ -36,14 +34,15 @@ use Rattle.rz_node_laws.specs.Laws.{IsReadBack}
 use Rattle.rz_block_laws.specs.Acting.{IsActing, TellsBytes, AreBytes}
 use Rattle.rz_block_laws.specs.ActingLaws.{IsGoingLaw, IsHearingLaw}
 use Rattle.rz_chronicle.specs.Keys.{IsLater}
-use Rattle.rz_chronicle.specs.Kinds.{IsFit, is_honest, volume_in}
+use Rattle.rz_chronicle.specs.Kinds.{keeps_legal, volume_in}
 use Rattle.rz_chronicle.specs.Rules.{PassView}
+use Rattle.rz_chronicle.specs.Holds.{HasAllActors}
 use Rattle.rz_shared_locked.specs.LockedNodes.{IsTrueRecord}
 use Rattle.rz_show.specs.Shown.{shown_in, shown_of}
-use Rattle.rz_threads_steps.specs.Acted.{PassLasts, IsWorkRight, HasActed}
-use Rattle.rz_threads_steps.specs.Adding.{AddsOwn}
-use Rattle.rz_threads_steps.specs.Turned.{with_fits, WorkGoesOn, IsCutOff}
-use Rattle.rz_threads_steps.proofs.Shows.{shown-noted}
+use Rattle.rz_threads_steps.specs.Acted.{IsWorkRight, HasActed, IsStopped}
+use Rattle.rz_threads_steps.specs.Adding.{PassLasts, AddsOwn, AddsAlone}
+use Rattle.rz_threads_steps.specs.Turned.{with_fits, WorkGoesOn}
+use Rattle.rz_threads_steps.proofs.ShownEvents.{shown-noted}
 
 -- what is so where something failed
 pub on-err : {T E P : Type 0} (r : Result T E) → P → OnErr r P
@@ -52,39 +51,54 @@ on-err (Err e) p = p
 
 -- ---- nothing was done
 
-pub still-lasts : (kind : List ℕ) (p : PassView) → IsFit kind p.log → PassLasts kind p p
-still-lasts kind p fit = record { actor = refl; keys = refl; later = ([], refl); fit = fit }
+pub still-lasts : (p : PassView) → PassLasts p p
+still-lasts p = record { actor = refl; keys = refl; later = ([], refl) }
 
-pub still-cut : (by : Actor) (h : List Event) (m : Machine) (number : ℕ) → IsCutOff by number h h m
-still-cut by h m number = record { events = []; own = refl; some = inl refl }
+pub still-stopped : (kind : List ℕ) (number : ℕ) (p : PassView) (m : Machine) → IsStopped kind number p p m
+still-stopped kind number p m = record {
+  cut = record { events = []; own = refl; some = inl refl };
+  alone = λ all. refl;
+  none = λ keeps. refl;
+}
 
 -- ---- one after another
 
-pub lasts-on : (kind : List ℕ) (p q r : PassView) → PassLasts kind p q → PassLasts kind q r → PassLasts kind p r
-lasts-on kind p q r first next = record {
+pub lasts-on : (p q r : PassView) → PassLasts p q → PassLasts q r → PassLasts p r
+lasts-on p q r first next = record {
   actor = next.actor ∙ first.actor;
   keys = next.keys ∙ first.keys;
   later = (next.later.0 ++ first.later.0, next.later.1 ∙ ap (λ (h : List Event). next.later.0 ++ h) first.later.1 ∙ sym (append_assoc next.later.0 first.later.0 p.log));
-  fit = next.fit;
 }
 
 -- ---- a turn was cut off
 
-pub cut-by : (v : Volume) (honest : Bool) (by : Actor) (number : ℕ) (old new : List Event) (m : Machine) (event : Option Event) → AddsOwn v honest by old event new
-    → ((x : Event) → event ≡ Some x → (t : Told) × IsStep by number (ask_of m.layout m.work) t (x ∷ [])) → IsCutOff by number old new m
-cut-by v honest by number old new m (Some x) adds step = record { events = x ∷ []; own = adds.own; some = inr (step x refl) }
-cut-by v honest by number old new m None adds step = record { events = []; own = adds.own; some = inl refl }
+pub stopped-by : (kind : List ℕ) (earlier : List Event) (number : ℕ) (p q : PassView) (m : Machine) (event : Option Event) → AddsOwn kind earlier p event q
+    → ((x : Event) → event ≡ Some x → (t : Told) × IsStep p.actor number (ask_of m.layout m.work) t (x ∷ [])) → (IsTrue (keeps_legal kind) → event ≡ None) → IsStopped kind number p q m
+stopped-by kind earlier number p q m (Some x) adds step none = record {
+  cut = record { events = x ∷ []; own = adds.own; some = inr (step x refl) };
+  alone = adds.alone;
+  none = λ keeps. (let never = none keeps in absurd cc);
+}
+stopped-by kind earlier number p q m None adds step none = record {
+  cut = record { events = []; own = adds.own; some = inl refl };
+  alone = adds.alone;
+  none = λ keeps. refl;
+}
+
+-- a reply that is not taken has no event, in a book that keeps its log legal
+pub not-taken : (kind : List ℕ) (earlier : List Event) (p : PassView) (number : ℕ) (m : Machine) (c : Call) (r : Reply) → ask_of m.layout m.work ≡ AskExport c → IsWorkRight kind earlier p number m
+    → (IsTrue (keeps_legal kind) → IfSome (export_event p.actor c r) (λ x. IsReplyTo (volume_in kind).layout c r)) → ¬ IsReply m.layout (ask_of m.layout m.work) r → IsTrue (keeps_legal kind) → export_event p.actor c r ≡ None
+not-taken kind earlier p number m c r asks right answers never keeps = go (export_event p.actor c r) (answers keeps)
+  where
+    go : (o : Option Event) → IfSome o (λ x. IsReplyTo (volume_in kind).layout c r) → o ≡ None
+    go None is = refl
+    go (Some x) is = absurd (never (subst (λ (a : Ask). IsReply m.layout a r) (sym asks) (subst (λ (y : Layout). IsReplyTo y c r) (sym (right keeps).true_to.layout_is) is)))
 
 -- ---- the steps
 
 pub export-step : (by : Actor) (number : ℕ) (m : Machine) (c : Call) (r : Reply) (x : Event) → ask_of m.layout m.work ≡ AskExport c → export_event by c r ≡ Some x
     → IsStep by number (ask_of m.layout m.work) (Replied r) (x ∷ [])
 export-step by number m c r x asks is = subst (λ (a : Ask). IsStep by number a (Replied r) (x ∷ [])) (sym asks) (r, x, refl, is, refl)
-
-pub lock-step : (by : Actor) (number : ℕ) (m : Machine) (path : List ℕ) (exclusive : Bool) (from count : ℕ) (granted : Bool) (c : Call) (r : Reply) (x : Event) → c ≡ call.Tree (tree.OpenFile path)
-    → ask_of m.layout m.work ≡ AskLock path exclusive from count → export_event by c r ≡ Some x → IsStep by number (ask_of m.layout m.work) (Locked granted r) (x ∷ [])
-lock-step by number m path exclusive from count granted c r x opens asks is =
-    subst (λ (a : Ask). IsStep by number a (Locked granted r) (x ∷ [])) (sym asks) (granted, r, x, refl, subst (λ (k : Call). export_event by k r ≡ Some x) opens is, refl)
 
 pub node-step : (by : Actor) (number : ℕ) (m : Machine) (n : ℕ) (question : NodeAsk) (given : NodeAnswer) (x : Event) → ask_of m.layout m.work ≡ AskNode n question → node_event by n question given ≡ Some x
     → IsStep by number (ask_of m.layout m.work) (Answered true given) (x ∷ [])
@@ -115,27 +129,28 @@ reply-to layout by (call.Enroll n loss) (_) is = absurd is
 reply-to layout by (call.Next n after) (reply.Listed l) is = (_, refl)
 reply-to layout by (call.Next n after) (_) is = absurd is
 
-open-to : (layout : Layout) (by : Actor) (path : List ℕ) (r : Reply) → IsTreeReply layout r → (x : Event) × (export_event by (call.Tree (tree.OpenFile path)) r ≡ Some x)
-open-to layout by path (reply.Tree a) is = (_, refl)
-open-to layout by path (_) is = absurd is
-
 -- ---- the events of an actor that are shown
 
-pub shows-on : (by : Actor) (old new : List Event) (event : Option Event) (before after : List Event) → before ≡ shown_of (of_actor by old) → after ≡ before ++ shown_in event
-    → of_actor by new ≡ noted event (of_actor by old) → after ≡ shown_of (of_actor by new)
-shows-on by old new event before after was push own =
-    push ∙ ap (λ (s : List Event). s ++ shown_in event) was ∙ sym (shown-noted event (of_actor by old)) ∙ ap shown_of (sym own)
+pub shows-on : (P : List Event → Type 0) (kind : List ℕ) (earlier : List Event) (p q : PassView) (event : Option Event) → P (shown_of (of_actor p.actor p.log) ++ shown_in event) → AddsOwn kind earlier p event q
+    → P (shown_of (of_actor p.actor q.log))
+shows-on P kind earlier p q event has adds = subst P (sym (shown-noted event (of_actor p.actor p.log)) ∙ ap shown_of (sym adds.own)) has
 
 -- ---- two events of one actor
 
-pub told-later : (v : Volume) (h g : List Event) (x : Event) → IsLater h g → IsToldBy v (facts h) x → IsToldBy v (facts g) x
-told-later v h g x (more, is) told_so = subst (λ (k : List Event). IsToldBy v (facts k) x) (sym is) (told-extends v (facts h) (facts (more ++ h)) (extends-more more h) x told_so)
+told-later : (v : Volume) (earlier h g : List Event) (x : Event) → IsLater h g → IsToldBy v (facts (h ++ earlier)) x → IsToldBy v (facts (g ++ earlier)) x
+told-later v earlier h g x (more, is) told_so =
+    subst (λ (k : List Event). IsToldBy v (facts k) x) (sym (ap (λ (k : List Event). k ++ earlier) is ∙ append_assoc more h earlier))
+    (told-extends v (facts (h ++ earlier)) (facts (more ++ (h ++ earlier))) (extends-more more (h ++ earlier)) x told_so)
 
-pub both-said : (v : Volume) (honest : Bool) (by : Actor) (old mid new : List Event) (x y : Event) → AddsOwn v honest by old (Some x) mid → AddsOwn v honest by mid (Some y) new → IsTrue honest → AreToldBy v (facts new) (y ∷ x ∷ [])
-both-said v honest by old mid new x y first next is = (next.said is, (told-later v mid new x next.later (first.said is), tt))
+module _ (kind : List ℕ) (earlier : List Event) (p mid q : PassView) (x y : Event) (first : AddsOwn kind earlier p (Some x) mid) (second : AddsOwn kind earlier mid (Some y) q) where
+  both-said : IsTrue (keeps_legal kind) → AreToldBy (volume_in kind) (facts (q.log ++ earlier)) (y ∷ x ∷ [])
+  both-said keeps = (second.said keeps, (told-later (volume_in kind) earlier mid.log q.log x second.lasts.later (first.said keeps), tt))
 
-pub both-own : (v : Volume) (honest : Bool) (by : Actor) (old mid new : List Event) (x y : Event) → AddsOwn v honest by old (Some x) mid → AddsOwn v honest by mid (Some y) new → of_actor by new ≡ y ∷ x ∷ of_actor by old
-both-own v honest by old mid new x y first next = next.own ∙ ap (λ (o : List Event). y ∷ o) first.own
+  both-own : of_actor p.actor q.log ≡ y ∷ x ∷ of_actor p.actor p.log
+  both-own = subst (λ (a : Actor). of_actor a q.log ≡ y ∷ of_actor a mid.log) first.lasts.actor second.own ∙ ap (λ (o : List Event). y ∷ o) first.own
+
+  both-alone : AddsAlone p (y ∷ x ∷ []) q
+  both-alone all = second.alone (subst HasAllActors (sym first.lasts.keys) all) ∙ ap (λ (h : List Event). y ∷ h) (first.alone all)
 
 -- ---- the operation goes on
 
@@ -164,59 +179,53 @@ read-back : (v : Volume) (f : Facts) (n : ℕ) (question : NodeAsk) (given : Nod
 read-back v f n question given before bins read key position stamp r asked told_so =
     subst (λ (a : NodeAnswer). IsTrueRecord v f n (ask.Fetch key position stamp) a before bins) told_so (subst (λ (q : NodeAsk). IsTrueRecord v f n q given before bins) asked read)
 
-module _ (kind : List ℕ) (number : ℕ) (p q : PassView) (m m' : Machine) (lasts : PassLasts kind p q) where
+module _ (kind : List ℕ) (earlier : List Event) (number : ℕ) (p q : PassView) (m m' : Machine) (lasts : PassLasts p q) where
   abbrev v : Volume
   v = volume_in kind
+
+  abbrev keeps : Type 0
+  keeps = IsTrue (keeps_legal kind)
 
   abbrev more : List Event
   more = lasts.later.0
 
+  abbrev Right : Type 0
+  Right = IsWorkRight kind earlier p number m
+
+  abbrev Acted : Type 0
+  Acted = HasActed kind earlier number p q m m'
+
   -- what is right beside the log that was seen is right for the pass
-  right-now : IsActing v (more ++ p.log) p.actor number m' → IsActing v q.log q.actor number m'
-  right-now acts = subst (λ (a : Actor). IsActing v q.log a number m') (sym lasts.actor) (subst (λ (h : List Event). IsActing v h p.actor number m') (sym lasts.later.1) acts)
+  right-now : IsActing v earlier (more ++ p.log) p.actor number m' → IsActing v earlier q.log q.actor number m'
+  right-now acts = subst (λ (a : Actor). IsActing v earlier q.log a number m') (sym lasts.actor) (subst (λ (h : List Event). IsActing v earlier h p.actor number m') (sym lasts.later.1) acts)
 
   -- it was told anything but a record
-  pub went : IsGoingLaw v → (t : Told) (xs : List Event) → IsStep p.actor number (ask_of m.layout m.work) t xs → IsNoFetch t → of_actor p.actor q.log ≡ xs ++ of_actor p.actor p.log
-      → (IsTrue (is_honest kind) → AreToldBy v (facts q.log) xs) → (IsTrue (is_honest kind) → TellsBytes (facts q.log) t) → IsWorkAfter m m.pairs t m' → IsWorkRight kind p number m → HasActed kind number p q m m'
-  went going t xs step other own said bytes goes right = record {
-    turned = record { answer = t; events = xs; own = own; step = step; layout = goes.layout; goes = goes-by (is_honest kind) m m' t goes.work };
-    right = λ honest. right-now (going p.log more p.actor number m m' t xs (right honest) (record {
+  pub went : IsGoingLaw v → (t : Told) (xs : List Event) → IsStep p.actor number (ask_of m.layout m.work) t xs → IsNoFetch t → of_actor p.actor q.log ≡ xs ++ of_actor p.actor p.log → AddsAlone p xs q
+      → (keeps → AreToldBy v (facts (q.log ++ earlier)) xs) → (keeps → TellsBytes (facts (q.log ++ earlier)) t) → IsWorkAfter m m.pairs t m' → Right → Acted
+  went going t xs step other own alone said bytes goes right = record {
+    turned = record { answer = t; events = xs; own = own; step = step; layout = goes.layout; goes = goes-by (keeps_legal kind) m m' t goes.work };
+    alone = alone;
+    right = λ legal. right-now (going earlier p.log more p.actor number m m' t xs (right legal) (record {
       step = step;
       other = other;
       own = subst (λ (h : List Event). of_actor p.actor h ≡ xs ++ of_actor p.actor p.log) lasts.later.1 own;
-      said = subst (λ (h : List Event). AreToldBy v (facts h) xs) lasts.later.1 (said honest);
-      bytes = subst (λ (h : List Event). TellsBytes (facts h) t) lasts.later.1 (bytes honest);
+      said = subst (λ (h : List Event). AreToldBy v (facts (h ++ earlier)) xs) lasts.later.1 (said legal);
+      bytes = subst (λ (h : List Event). TellsBytes (facts (h ++ earlier)) t) lasts.later.1 (bytes legal);
       goes = goes;
     }));
   }
 
   -- the export replied
-  abbrev Exports : Call → Reply → Type 0
-  Exports c r = AddsOwn v (is_honest kind) p.actor p.log (export_event p.actor c r) q.log
-
-  noted-one : (c : Call) (r : Reply) (x : Event) → export_event p.actor c r ≡ Some x → Exports c r → of_actor p.actor q.log ≡ x ∷ of_actor p.actor p.log
-  noted-one c r x is adds = adds.own ∙ ap (λ (o : Option Event). noted o (of_actor p.actor p.log)) is
-
-  said-one : (c : Call) (r : Reply) (x : Event) → export_event p.actor c r ≡ Some x → Exports c r → IsTrue (is_honest kind) → AreToldBy v (facts q.log) (x ∷ [])
-  said-one c r x is adds honest = (subst (λ (o : Option Event). IfSome o (IsToldBy v (facts q.log))) is (adds.said honest), tt)
-
-  pub exported : IsGoingLaw v → (c : Call) (r : Reply) → ask_of m.layout m.work ≡ AskExport c → IsReply m.layout (ask_of m.layout m.work) r → Exports c r → AreBytes (facts q.log) → IsWorkAfter m m.pairs (Replied r) m'
-      → IsWorkRight kind p number m → HasActed kind number p q m m'
-  exported going c r asks is adds bytes goes right =
+  pub exported : IsGoingLaw v → (c : Call) (r : Reply) → ask_of m.layout m.work ≡ AskExport c → IsReply m.layout (ask_of m.layout m.work) r → AddsOwn kind earlier p (export_event p.actor c r) q
+      → (keeps → AreBytes (facts (q.log ++ earlier))) → IsWorkAfter m m.pairs (Replied r) m' → Right → Acted
+  exported going c r asks is added bytes goes right =
       let has : (x : Event) × (export_event p.actor c r ≡ Some x) = reply-to m.layout p.actor c r (subst (λ (a : Ask). IsReply m.layout a r) asks is) in
-      went going (Replied r) (has.0 ∷ []) (export-step p.actor number m c r has.0 asks has.1) tt (noted-one c r has.0 has.1 adds) (said-one c r has.0 has.1 adds) (λ honest. bytes) goes right
-
-  pub opened : IsGoingLaw v → (path : List ℕ) (exclusive : Bool) (from count : ℕ) (granted : Bool) (c : Call) (r : Reply) → c ≡ call.Tree (tree.OpenFile path) → ask_of m.layout m.work ≡ AskLock path exclusive from count
-      → IsLockReply m.layout (ask_of m.layout m.work) r → Exports c r → IsWorkAfter m m.pairs (Locked granted r) m' → IsWorkRight kind p number m → HasActed kind number p q m m'
-  opened going path exclusive from count granted c r opens asks is adds goes right =
-      let has : (x : Event) × (export_event p.actor (call.Tree (tree.OpenFile path)) r ≡ Some x) = open-to m.layout p.actor path r (subst (λ (a : Ask). IsLockReply m.layout a r) asks is) in
-      let event : export_event p.actor c r ≡ Some has.0 = ap (λ (k : Call). export_event p.actor k r) opens ∙ has.1 in
-      went going (Locked granted r) (has.0 ∷ []) (lock-step p.actor number m path exclusive from count granted c r has.0 opens asks event) tt (noted-one c r has.0 event adds) (said-one c r has.0 event adds) (λ honest. tt) goes right
+      let adds : AddsOwn kind earlier p (Some has.0) q = subst (λ (o : Option Event). AddsOwn kind earlier p o q) has.1 added in
+      went going (Replied r) (has.0 ∷ []) (export-step p.actor number m c r has.0 asks has.1) tt adds.own adds.alone (λ legal. (adds.said legal, tt)) bytes goes right
 
   -- a node answered with this event
-  pub heard : IsHearingLaw v → (n : ℕ) (question : NodeAsk) (given : NodeAnswer) (x : Event) (before bins : List ℕ) → ask_of m.layout m.work ≡ AskNode n question → node_event p.actor n question given ≡ Some x
-      → AddsOwn v (is_honest kind) p.actor p.log (Some x) q.log → (IsTrue (is_honest kind) → IsTrueRecord v (facts q.log) n question given before bins) → FitsIfEnough m given bins m' → IsWorkRight kind p number m
-      → HasActed kind number p q m m'
+  heard : IsHearingLaw v → (n : ℕ) (question : NodeAsk) (given : NodeAnswer) (x : Event) (before bins : List ℕ) → ask_of m.layout m.work ≡ AskNode n question → node_event p.actor n question given ≡ Some x
+      → AddsOwn kind earlier p (Some x) q → (keeps → IsTrueRecord v (facts (q.log ++ earlier)) n question given before bins) → FitsIfEnough m given bins m' → Right → Acted
   heard hears n question given x before bins asked event adds read answered right = record {
     turned = record {
       answer = Answered true given;
@@ -224,45 +233,45 @@ module _ (kind : List ℕ) (number : ℕ) (p q : PassView) (m m' : Machine) (las
       own = adds.own;
       step = node-step p.actor number m n question given x asked event;
       layout = told_as.0;
-      goes = record { by_told = told_as.1; fitting = λ honest. (goes_on honest).0 };
+      goes = record { by_told = told_as.1; fitting = λ legal. (goes_on legal).0 };
     };
-    right = λ honest. right-now (goes_on honest).1;
+    alone = adds.alone;
+    right = λ legal. right-now (goes_on legal).1;
   }
     where
       told_as : (m'.layout ≡ m.layout) × ((fits : Bool) × (m'.work ≡ told m.layout m.work (Answered fits given)))
       told_as = answered-as m given bins m' answered
 
-      goes_on : IsTrue (is_honest kind) → (m'.work ≡ told m.layout m.work (Answered true given)) × IsActing v (more ++ p.log) p.actor number m'
-      goes_on honest = hears p.log more p.actor number m m' n question given x before bins (right honest) (record {
+      goes_on : keeps → (m'.work ≡ told m.layout m.work (Answered true given)) × IsActing v earlier (more ++ p.log) p.actor number m'
+      goes_on legal = hears earlier p.log more p.actor number m m' n question given x before bins (right legal) (record {
         asked = asked;
         event = event;
         own = subst (λ (h : List Event). of_actor p.actor h ≡ x ∷ of_actor p.actor p.log) lasts.later.1 adds.own;
-        said = subst (λ (h : List Event). IsToldBy v (facts h) x) lasts.later.1 (adds.said honest);
-        read = read-back v (facts (more ++ p.log)) n question given before bins (subst (λ (h : List Event). IsTrueRecord v (facts h) n question given before bins) lasts.later.1 (read honest));
+        said = subst (λ (h : List Event). IsToldBy v (facts (h ++ earlier)) x) lasts.later.1 (adds.said legal);
+        read = read-back v (facts (more ++ p.log ++ earlier)) n question given before bins (subst (λ (h : List Event). IsTrueRecord v (facts (h ++ earlier)) n question given before bins) lasts.later.1 (read legal));
         answered = answered;
       })
 
   -- of an answer that has this event
   pub heard-of : IsHearingLaw v → (n : ℕ) (question : NodeAsk) (given : NodeAnswer) (before bins : List ℕ) → ask_of m.layout m.work ≡ AskNode n question → ((x : Event) × (node_event p.actor n question given ≡ Some x))
-      → AddsOwn v (is_honest kind) p.actor p.log (node_event p.actor n question given) q.log → (IsTrue (is_honest kind) → IsTrueRecord v (facts q.log) n question given before bins) → FitsIfEnough m given bins m' → IsWorkRight kind p number m
-      → HasActed kind number p q m m'
+      → AddsOwn kind earlier p (node_event p.actor n question given) q → (keeps → IsTrueRecord v (facts (q.log ++ earlier)) n question given before bins) → FitsIfEnough m given bins m' → Right → Acted
   heard-of hears n question given before bins asked (x, event) adds read answered right =
-      heard hears n question given x before bins asked event (subst (λ (o : Option Event). AddsOwn v (is_honest kind) p.actor p.log o q.log) event adds) read answered right
+      heard hears n question given x before bins asked event (subst (λ (o : Option Event). AddsOwn kind earlier p o q) event adds) read answered right
 
   -- its answer was lost
-  pub missed-reply : IsGoingLaw v → (n : ℕ) (question : NodeAsk) (given : NodeAnswer) (mid : List Event) → ask_of m.layout m.work ≡ AskNode n question → goes_by_link question ≡ true
-      → ((x : Event) × (node_event p.actor n question given ≡ Some x)) → AddsOwn v (is_honest kind) p.actor p.log (node_event p.actor n question given) mid
-      → AddsOwn v (is_honest kind) p.actor mid (Some (e.Missed p.actor n true)) q.log → IsWorkAfter m m.pairs Missed m' → IsWorkRight kind p number m → HasActed kind number p q m m'
-  missed-reply going n question given mid asked link (x, event) first next goes right =
-      let one : AddsOwn v (is_honest kind) p.actor p.log (Some x) mid = subst (λ (o : Option Event). AddsOwn v (is_honest kind) p.actor p.log o mid) event first in
+  pub missed-reply : IsGoingLaw v → (n : ℕ) (question : NodeAsk) (given : NodeAnswer) (mid : PassView) → ask_of m.layout m.work ≡ AskNode n question → goes_by_link question ≡ true
+      → ((x : Event) × (node_event p.actor n question given ≡ Some x)) → AddsOwn kind earlier p (node_event p.actor n question given) mid
+      → AddsOwn kind earlier mid (Some (e.Missed p.actor n true)) q → IsWorkAfter m m.pairs Missed m' → Right → Acted
+  missed-reply going n question given mid asked link (x, event) first second goes right =
+      let one : AddsOwn kind earlier p (Some x) mid = subst (λ (o : Option Event). AddsOwn kind earlier p o mid) event first in
       let miss = e.Missed p.actor n true in
       went going Missed (miss ∷ x ∷ [])
       (subst (λ (a : Ask). IsStep p.actor number a Missed (miss ∷ x ∷ [])) (sym asked) (ReplyLost given x event link)) tt
-      (both-own v (is_honest kind) p.actor p.log mid q.log x miss one next) (both-said v (is_honest kind) p.actor p.log mid q.log x miss one next) (λ honest. tt) goes right
+      (both-own kind earlier p mid q x miss one second) (both-alone kind earlier p mid q x miss one second) (both-said kind earlier p mid q x miss one second) (λ legal. tt) goes right
 
   -- it was lost itself
   pub missed-request : IsGoingLaw v → (n : ℕ) (question : NodeAsk) → ask_of m.layout m.work ≡ AskNode n question → goes_by_link question ≡ true
-      → AddsOwn v (is_honest kind) p.actor p.log (Some (e.Missed p.actor n false)) q.log → IsWorkAfter m m.pairs Missed m' → IsWorkRight kind p number m → HasActed kind number p q m m'
+      → AddsOwn kind earlier p (Some (e.Missed p.actor n false)) q → IsWorkAfter m m.pairs Missed m' → Right → Acted
   missed-request going n question asked link adds goes right =
       let miss = e.Missed p.actor n false in
-      went going Missed (miss ∷ []) (subst (λ (a : Ask). IsStep p.actor number a Missed (miss ∷ [])) (sym asked) (RequestLost link)) tt adds.own (λ honest. (adds.said honest, tt)) (λ honest. tt) goes right
+      went going Missed (miss ∷ []) (subst (λ (a : Ask). IsStep p.actor number a Missed (miss ∷ [])) (sym asked) (RequestLost link)) tt adds.own adds.alone (λ legal. (adds.said legal, tt)) (λ legal. tt) goes right

@@ -1,6 +1,5 @@
 pub mod Added
-pub mod Shows
-pub mod Locks
+pub mod ShownEvents
 pub mod Acts
 pub mod Sayings
 pub mod Messages

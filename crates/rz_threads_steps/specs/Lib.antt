@@ -3,3 +3,4 @@ pub mod Adding
 pub mod Saying
 pub mod Acted
 pub mod Opening
+pub mod Asking

@@ -4,24 +4,25 @@ ghost use Rattle.rz_core.specs.History.{of_actor};
 ghost use Rattle.rz_play.specs.Faults.{missed};
 ghost use Rattle.rz_chronicle.specs.Kinds.{volume_in};
 ghost use Rattle.rz_show.specs.Shown.{shown_of};
-ghost use Rattle.rz_threads_steps.specs.Acted.{PassLasts, IsWorkRight, HasActed};
+ghost use Rattle.rz_threads_steps.specs.Acted.{IsWorkRight, HasActed, IsStopped};
+ghost use Rattle.rz_threads_steps.specs.Adding.{PassLasts};
 ghost use Rattle.rz_threads_steps.specs.Saying.{IsSayingDone};
-ghost use Rattle.rz_threads_steps.specs.Turned.{IsCutOff};
 
 use crate::adding::add_own;
-use crate::showing::show;
+use crate::showing::{Shows, show};
 use crate::store::SharedStore;
 use rz_chronicle::Pass;
 use rz_disk::Disk;
 use rz_events::{Actor, Event};
 use rz_operation::{Ask, Machine, Saying};
 use rz_player::Halted;
-use rz_shared::Counting;
+use rz_shared::Metering;
 use std::alloc::Global;
 
 /// The event of what a machine is about to say, which it has then said.
-pub fn said(alloc: Global, by: Actor, number: u32, machine: &mut Machine) -> Result<Event, Halted>
+fn said(alloc: Global, by: Actor, number: u32, machine: &mut Machine) -> Result<Event, Halted>
     ensures said { IfOk result (IsSayingDone by number machine.old machine.new) }
+    ensures kept { OnErr result (machine.new ≡ machine.old) }
 {
     match machine.next() {
         Ask::Say(Saying::Got { key, part, mark }) => {
@@ -58,33 +59,35 @@ pub fn said(alloc: Global, by: Actor, number: u32, machine: &mut Machine) -> Res
 }
 
 /// Says what a machine is about to say, and tells it so. Its event may be one that is shown.
-pub fn say<D: Disk, J: Counting>(
+pub(crate) fn say<D: Disk, J: Metering, S: Shows>(
     alloc: Global,
     store: &SharedStore<D, J>,
     pass: &mut Pass<J>,
     number: u32,
     machine: &mut Machine,
-    shown: &mut Vec<Event>,
+    shown: &mut S,
 ) -> Result<(), Halted>
     requires volume { store.now.volume ≡ volume_in J.kind }
     requires actor { ¬ (pass.old.actor ≡ Actor.Admin) }
-    requires right { IsWorkRight J.kind pass.old number machine.old }
-    requires shows { shown.old.items ≡ shown_of (of_actor pass.old.actor pass.old.log) }
-    ensures lasts { PassLasts J.kind pass.old pass.new }
+    requires right { IsWorkRight J.kind J.earlier pass.old number machine.old }
+    requires shows { S.has shown.old (shown_of (of_actor pass.old.actor pass.old.log)) }
+    ensures lasts { PassLasts pass.old pass.new }
     ensures quiet { missed (of_actor pass.old.actor pass.new.log) ≡ missed (of_actor pass.old.actor pass.old.log) }
-    ensures shows { shown.new.items ≡ shown_of (of_actor pass.old.actor pass.new.log) }
-    ensures acted { OnOk result (HasActed J.kind number pass.old pass.new machine.old machine.new) }
-    ensures cut { OnErr result (IsCutOff pass.old.actor number pass.old.log pass.new.log machine.old) }
+    ensures shows { S.has shown.new (shown_of (of_actor pass.old.actor pass.new.log)) }
+    ensures acted { OnOk result (HasActed J.kind J.earlier number pass.old pass.new machine.old machine.new) }
+    ensures stopped { OnErr result (IsStopped J.kind number pass.old pass.new machine.old) }
+    ensures kept { OnErr result (machine.new ≡ machine.old) }
 {
     rz_block_laws::acting::asks();
     rz_block_laws::acting::says();
     rz_block_laws::acting::goes();
-    rz_chronicle::words_counted();
+    rz_chronicle::one_rule();
+    rz_chronicle::roomy();
     let by = pass.actor();
-    if !pass.room() {
+    if !pass.has_room_after() {
         return Err(Halted);
     }
-    shown.reserve(1)?;
+    shown.make_room()?;
     let event = said(alloc, by, number, machine)?;
     add_own(store, pass, &event);
     show(event, shown);

@@ -1,14 +1,71 @@
 //! Events of an actor that are shown.
-ghost use Rattle.std.specs.Prelude.{◌≡◌, ◌+◌, ◌≤◌, ◌++◌, IfNone, None};
-ghost use Rattle.std.specs.Vec.{vec_len, vec_capacity};
-ghost use Rattle.rz_events.specs.declared.export.Reply.TheVariants as answer;
-ghost use Rattle.rz_events.specs.declared.tree.TreeReply.TheVariants as reply;
+ghost use Rattle.std.specs.Prelude.{◌≡◌, ◌++◌, List};
+ghost use Rattle.rz_events.specs.declared.events.Event.{Event as AnEvent};
 ghost use Rattle.rz_events.specs.Borrowed.{call_of};
 ghost use Rattle.rz_export_model.specs.ExportEvents.{export_event};
 ghost use Rattle.rz_show.specs.Shown as model;
 ghost use Rattle.rz_threads_steps.specs.Opening.{IsOpenCall};
 
-use rz_events::{Actor, Call, CallRef, Event, FileInfo, Reply, TreeCall, TreeReply};
+use rz_events::{Actor, CallRef, Event, FileInfo, Reply, TreeCall, TreeReply};
+use std::alloc::AllocError;
+
+/// Where the events of an actor that are shown go.
+pub trait Shows {
+    ghost use Rattle.std.specs.Prelude.{List, [], ◌∷◌, ◌++◌, IfOk};
+    ghost use Rattle.rz_events.specs.declared.events.Event.{Event as AnEvent};
+
+    /// It has what it keeps of these events, the oldest first.
+    ghost has: { Self → List AnEvent → Type 0 };
+
+    /// It has room for one more.
+    ghost has_room: { Self → Type 0 };
+
+    /// Takes the memory for one more.
+    fn make_room(&mut self) -> Result<(), AllocError>
+        ensures kept { (shown : List AnEvent) → has self.old shown → has self.new shown }
+        ensures room { IfOk result (λ done. has_room self.new) };
+
+    /// Shows an event.
+    fn show(&mut self, event: Event)
+        requires { has_room self.old }
+        ensures { (shown : List AnEvent) → has self.old shown → has self.new (shown ++ event ∷ []) };
+}
+
+/// Each event is kept.
+impl Shows for Vec<Event> {
+    ghost use Rattle.std.specs.Prelude.{◌≡◌, ◌+◌, ◌≤◌};
+    ghost use Rattle.std.specs.Vec.{vec_len, vec_capacity};
+
+    ghost has = { λ kept shown. kept.items ≡ shown };
+
+    ghost has_room = { λ kept. vec_len kept + 1 ≤ vec_capacity kept };
+
+    fn make_room(&mut self) -> Result<(), AllocError> {
+        self.reserve(1)
+    }
+
+    fn show(&mut self, event: Event) {
+        self.push_reserved(event);
+    }
+}
+
+/// No event is kept.
+#[derive(Clone, Copy, Drop)]
+pub struct Unshown;
+
+impl Shows for Unshown {
+    ghost has = { λ kept shown. Unit {0} };
+
+    ghost has_room = { λ kept. Unit {0} };
+
+    fn make_room(&mut self) -> Result<(), AllocError> {
+        Ok(())
+    }
+
+    fn show(&mut self, event: Event) {
+        drop(event);
+    }
+}
 
 /// The file that a reply tells.
 fn file_in(reply: &Reply) -> Option<FileInfo>
@@ -20,60 +77,29 @@ fn file_in(reply: &Reply) -> Option<FileInfo>
     }
 }
 
-/// Whether a call that was answered with a file opened it.
-fn is_open(call: &TreeCall, info: &FileInfo) -> bool
-    ensures { result ≡ model.is_open call.now (reply.File info.now) }
-{
-    let _ = info;
-    matches!(call, TreeCall::OpenFile { .. })
-}
-
-/// Keeps the event of a call that a file answered, if the call opened it.
-fn show_file(by: Actor, call: Call, info: FileInfo, shown: &mut Vec<Event>)
-    requires room { vec_len shown.old + 1 ≤ vec_capacity shown.old }
-    ensures { shown.new.items ≡ shown.old.items ++ model.shown_in (export_event by call (answer.Tree (reply.File info))) }
-{
-    match call {
-        Call::Tree(call) => {
-            if is_open(&call, &info) {
-                let reply = TreeReply::File(info);
-                shown.push_reserved(Event::Meta { by, call, reply });
-            } else {
-                drop(call);
-            }
-        }
-        other => drop(other),
-    }
-}
-
-/// Keeps the event of a reply, if it is that of an open.
-pub(crate) fn show_open(by: Actor, call: Call, reply: &Reply, shown: &mut Vec<Event>)
-    requires room { vec_len shown.old + 1 ≤ vec_capacity shown.old }
-    ensures { shown.new.items ≡ shown.old.items ++ model.shown_in (export_event by call reply.now) }
-{
-    if let Some(info) = file_in(reply) {
-        show_file(by, call, info, shown);
-    } else {
-        drop(call);
-    }
-}
-
-/// Keeps the event of a reply, if it is that of an open, of which `opening` is the call.
-pub(crate) fn show_opening(
+/// Shows the event of a reply, if it is that of an open, of which `opening` is the call.
+pub(crate) fn show_opening<S: Shows>(
     by: Actor,
     call: CallRef<'_>,
     opening: Option<TreeCall>,
     reply: &Reply,
-    shown: &mut Vec<Event>,
+    shown: &mut S,
 )
     requires opening { IsOpenCall (call_of call) opening }
-    requires room { vec_len shown.old + 1 ≤ vec_capacity shown.old }
-    ensures { shown.new.items ≡ shown.old.items ++ model.shown_in (export_event by (call_of call.entry) reply.now) }
+    requires room { S.has_room shown.old }
+    ensures { (before : List AnEvent) → S.has shown.old before → S.has shown.new (before ++ model.shown_in (export_event by (call_of call.entry) reply.now)) }
 {
     let _ = call;
-    match opening {
-        Some(opening) => show_open(by, Call::Tree(opening), reply, shown),
-        None => {}
+    let Some(opening) = opening else {
+        return;
+    };
+    match file_in(reply) {
+        Some(info) => shown.show(Event::Meta {
+            by,
+            call: opening,
+            reply: TreeReply::File(info),
+        }),
+        None => drop(opening),
     }
 }
 
@@ -92,13 +118,13 @@ fn is_shown(event: &Event) -> bool
     }
 }
 
-/// Keeps an event, if it is shown.
-pub(crate) fn show(event: Event, shown: &mut Vec<Event>)
-    requires room { vec_len shown.old + 1 ≤ vec_capacity shown.old }
-    ensures { shown.new.items ≡ shown.old.items ++ model.if_shown event }
+/// Shows an event, if it is one that is shown.
+pub(crate) fn show<S: Shows>(event: Event, shown: &mut S)
+    requires room { S.has_room shown.old }
+    ensures { (before : List AnEvent) → S.has shown.old before → S.has shown.new (before ++ model.if_shown event) }
 {
     if is_shown(&event) {
-        shown.push_reserved(event);
+        shown.show(event);
     } else {
         drop(event);
     }

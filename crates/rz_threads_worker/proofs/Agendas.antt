@@ -1,5 +1,5 @@
 -- A worker takes up its next operation.
-use Rattle.std.proofs.Common.{◌≡◌, ℕ, ◌+◌, Bool, true, false, not, List, [], ◌∷◌, length, drop, Option, Some, None, refl, sym, ◌∙◌, ap, subst, arith}
+use Rattle.std.proofs.Common.{◌≡◌, ℕ, ◌+◌, Bool, true, false, not, List, [], ◌∷◌, ◌++◌, length, drop, Option, Some, None, refl, sym, ◌∙◌, ap, subst, arith}
 use Rattle.std.specs.List.{AllByRecursion}
 use Rattle.mj_angles.specs.declared.layout.Layout.{Layout}
 use Rattle.rz_events.specs.Volume.{Volume}
@@ -15,7 +15,7 @@ use Rattle.rz_core.specs.History.{facts, of_actor}
 use Rattle.rz_core.specs.Own.{IsBetween}
 use Rattle.rz_play.specs.World.{Agenda as APlayer, begin_next, at_work, is_over}
 use Rattle.rz_play_laws.specs.Own.{IsOwnOf}
-use Rattle.rz_block_laws.specs.ActingLaws.{IsBeginningLaw}
+use Rattle.rz_block_laws.specs.ActingLaws.{IsBeginningLaw, IsScriptLaw}
 use Rattle.rz_chronicle.specs.Kinds.{volume_in}
 use Rattle.rz_chronicle.specs.Rules.{PassView}
 use Rattle.rz_threads_steps.specs.Acted.{IsWorkRight}
@@ -93,49 +93,49 @@ none-left (op ∷ ops) new same rest =
 
 -- ---- the operations are such as machines take
 
-pub all-taken : (v : Volume) → IsBeginningLaw v → (by : Actor) (ops : List Operation) → AllByRecursion (IsOperation v by) ops → AllByRecursion (answers.IsWithinLayout v.layout) ops
-all-taken v begins by [] all = tt
-all-taken v begins by (op ∷ ops) all = ((begins by op all.0).takes, all-taken v begins by ops all.1)
+pub all-taken : (v : Volume) → IsScriptLaw v → (by : Actor) (ops : List Operation) → AllByRecursion (IsOperation v by) ops → AllByRecursion (answers.IsWithinLayout v.layout) ops
+all-taken v scripted by [] all = tt
+all-taken v scripted by (op ∷ ops) all = ((scripted by op all.0).takes, all-taken v scripted by ops all.1)
 
 -- ---- it is ready with what it took up
 
 -- where none is in hand, the actor is between two operations
 between : (v : Volume) (h : List Event) (by : Actor) (number : ℕ) (hand : Option Machine) → is_over (work_in hand) ≡ true → IsAtHand v h by number hand → IsBetween (of_actor by h)
 between v h by number None over at = at
-between v h by number (Some m) over at = subst (λ (w : Work). IsOwnOf v (facts h) (of_actor by h) (of_actor by h) by w) (over-is m.work over) at.true_to.own
+between v h by number (Some m) over at = subst (λ (w : Work). IsOwnOf v (facts (h ++ [])) (of_actor by (h ++ [])) (of_actor by h) by w) (over-is m.work over) at.true_to.own
 
 module _ (kind : List ℕ) (pass : PassView) (a b : Agenda) (bins : List ℕ) (shown : List Event) (ready : IsWorkerReady kind pass a bins shown) where
   abbrev v : Volume
   v = volume_in kind
 
-  begins-ready : IsBeginningLaw v → (op : Operation) (m : Machine) → is_over (work_in a.machine) ≡ true → a.todo.items ≡ op ∷ b.todo.items → b.machine ≡ Some m → m.layout ≡ v.layout → m.work ≡ begun op → IsWorkerReady kind pass b bins shown
-  begins-ready begins op m over todo is layout work =
+  begins-ready : IsScriptLaw v → IsBeginningLaw v → (op : Operation) (m : Machine) → is_over (work_in a.machine) ≡ true → a.todo.items ≡ op ∷ b.todo.items → b.machine ≡ Some m → m.layout ≡ v.layout → m.work ≡ begun op → IsWorkerReady kind pass b bins shown
+  begins-ready scripted begins op m over todo is layout work =
       let all = subst (AllByRecursion (IsOperation v pass.actor)) todo ready.todo in
       record {
         actor = ready.actor;
         todo = all.1;
         machine = subst (HasLayout v.layout) (sym is) layout;
-        at_hand = λ honest. subst (IsAtHand v pass.log pass.actor b.number) (sym is)
-            ((begins pass.actor op all.0).acts pass.log b.number m (between v pass.log pass.actor a.number a.machine over (ready.at_hand honest)) layout work);
+        at_hand = λ keeps. subst (IsAtHand v pass.log pass.actor b.number) (sym is)
+            (begins [] pass.log pass.actor b.number op m (scripted pass.actor op all.0) (between v pass.log pass.actor a.number a.machine over (ready.at_hand keeps)) layout work);
         room = ready.room;
         shows = ready.shows;
       }
 
-  pub ready-on : IsBeginningLaw v → (layout : Layout) → layout ≡ v.layout → BeginsNext layout a b → IsWorkerReady kind pass b bins shown
-  ready-on begins layout is (Works busy same) = subst (λ (s : Agenda). IsWorkerReady kind pass s bins shown) (sym same) ready
-  ready-on begins layout is (Rests none still number hand) = record {
+  pub ready-on : IsScriptLaw v → IsBeginningLaw v → (layout : Layout) → layout ≡ v.layout → BeginsNext layout a b → IsWorkerReady kind pass b bins shown
+  ready-on scripted begins layout is (Works busy same) = subst (λ (s : Agenda). IsWorkerReady kind pass s bins shown) (sym same) ready
+  ready-on scripted begins layout is (Rests none still number hand) = record {
     actor = ready.actor;
     todo = subst (AllByRecursion (IsOperation v pass.actor)) (sym still) tt;
     machine = subst (HasLayout v.layout) (sym hand) ready.machine;
-    at_hand = λ honest. subst (λ (n : ℕ). IsAtHand v pass.log pass.actor n b.machine) (sym number) (subst (IsAtHand v pass.log pass.actor a.number) (sym hand) (ready.at_hand honest));
+    at_hand = λ keeps. subst (λ (n : ℕ). IsAtHand v pass.log pass.actor n b.machine) (sym number) (subst (IsAtHand v pass.log pass.actor a.number) (sym hand) (ready.at_hand keeps));
     room = ready.room;
     shows = ready.shows;
   }
-  ready-on begins layout is (Begins op m over todo number some lay work) = begins-ready begins op m over todo some (lay ∙ is) work
+  ready-on scripted begins layout is (Begins op m over todo number some lay work) = begins-ready scripted begins op m over todo some (lay ∙ is) work
 
   -- the machine in hand
   pub hand-layout : (m : Machine) → a.machine ≡ Some m → m.layout ≡ v.layout
   hand-layout m is = subst (HasLayout v.layout) is ready.machine
 
-  pub hand-right : (m : Machine) → a.machine ≡ Some m → IsWorkRight kind pass a.number m
-  hand-right m is honest = subst (IsAtHand v pass.log pass.actor a.number) is (ready.at_hand honest)
+  pub hand-right : (m : Machine) → a.machine ≡ Some m → IsWorkRight kind [] pass a.number m
+  hand-right m is keeps = subst (IsAtHand v pass.log pass.actor a.number) is (ready.at_hand keeps)

@@ -1,4 +1,3 @@
 pub mod Doing
 pub mod Laws
-pub mod Asking
 pub mod Workers

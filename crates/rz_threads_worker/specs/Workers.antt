@@ -16,7 +16,7 @@ use Rattle.rz_core.specs.Own.{IsBetween}
 use Rattle.rz_operation_model.specs.Steps.{begun}
 use Rattle.rz_play.specs.World.{Agenda as APlayer, has_work, is_over}
 use Rattle.rz_block_laws.specs.Acting.{IsActing}
-use Rattle.rz_chronicle.specs.Kinds.{is_honest, volume_in}
+use Rattle.rz_chronicle.specs.Kinds.{keeps_legal, volume_in}
 use Rattle.rz_chronicle.specs.Rules.{PassView}
 use Rattle.rz_show.specs.Shown.{shown_of}
 use Rattle.rz_threads_worker.specs.declared.worker_agenda.Agenda.{Agenda}
@@ -26,17 +26,17 @@ use Rattle.rz_threads_worker.specs.Doing.{HasDone}
 abbrev pub agenda_of : Agenda → APlayer
 agenda_of s = record { todo = s.todo.items; number = s.number; work = work_in s.machine; lock = None; miss = None }
 
--- the operation in hand is right beside the log, or none is in hand
+-- the operation in hand is right beside the log, which begins anew, or none is in hand
 abbrev pub IsAtHand : Volume → List Event → Actor → ℕ → Option Machine → Type 0
 IsAtHand v h by number None = IsBetween (of_actor by h)
-IsAtHand v h by number (Some m) = IsActing v h by number m
+IsAtHand v h by number (Some m) = IsActing v [] h by number m
 
 -- A client or a rebuilder that can take its next turn: `bins` has room for a record, and `shown` its events that are shown.
 pub record IsWorkerReady (kind : List ℕ) (pass : PassView) (agenda : Agenda) (bins : List ℕ) (shown : List Event) : Type 0 where
   pub actor : ¬ (pass.actor ≡ Admin)
   pub todo : AllByRecursion (IsOperation (volume_in kind) pass.actor) agenda.todo.items
   pub machine : HasLayout (volume_in kind).layout agenda.machine
-  pub at_hand : IsTrue (is_honest kind) → IsAtHand (volume_in kind) pass.log pass.actor agenda.number agenda.machine
+  pub at_hand : IsTrue (keeps_legal kind) → IsAtHand (volume_in kind) pass.log pass.actor agenda.number agenda.machine
   pub room : max_bins_of (volume_in kind).layout ≤ length bins
   pub shows : shown ≡ shown_of (of_actor pass.actor pass.log)
 

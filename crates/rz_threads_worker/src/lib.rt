@@ -7,12 +7,11 @@
 //!
 //! `laws` says what turns make of an actor's operations, one after another.
 //!
-//! In reading order: `worker_acts`, `worker_agenda`, `worker`, `working`, `laws`.
+//! In reading order: `worker_agenda`, `worker`, `working`, `laws`.
 #![tactic(auto)]
 
 mod laws;
 mod worker;
-mod worker_acts;
 mod worker_agenda;
 mod working;
 

@@ -2,20 +2,19 @@
 ghost use Rattle.std.specs.Prelude.{◌≡◌, OnOk, OnErr};
 ghost use Rattle.rz_core.specs.History.{of_actor};
 ghost use Rattle.rz_chronicle.specs.Keys.{IsLater};
-ghost use Rattle.rz_chronicle.specs.Kinds.{IsFit, is_honest, volume_in};
+ghost use Rattle.rz_chronicle.specs.Kinds.{is_honest, volume_in};
 ghost use Rattle.rz_show.specs.Shown.{shown_of};
-ghost use Rattle.rz_threads_steps.specs.Acted.{PassLasts};
+ghost use Rattle.rz_threads_steps.specs.Adding.{PassLasts};
 ghost use Rattle.rz_threads_steps.specs.Turned.{AreLost};
 ghost use Rattle.rz_threads_worker.specs.Doing.{HasDone, IsSomeDone};
 ghost use Rattle.rz_threads_worker.specs.Workers.{IsAllDone, IsWorkerReady, agenda_of};
 
 use crate::worker::Worker;
-use crate::worker_acts::act;
 use rz_disk::Disk;
 use rz_link::Link;
 use rz_player::Halted;
 use rz_shared::Counting;
-use rz_threads_steps::{SharedStore, release};
+use rz_threads_steps::{SharedStore, step};
 use std::alloc::Global;
 use std::sync::Wait;
 use std::thread::Threads;
@@ -29,7 +28,7 @@ fn take_turn<R: Threads + Wait + Sync, D: Disk, J: Counting, L: Link>(
 ) -> Result<(), Halted>
     requires volume { store.now.volume ≡ volume_in J.kind }
     requires ready { IsWorkerReady J.kind worker.old.pass worker.old.agenda worker.old.bins.items worker.old.shown.items }
-    ensures lasts { PassLasts J.kind worker.old.pass worker.new.pass }
+    ensures lasts { PassLasts worker.old.pass worker.new.pass }
     ensures lost { AreLost worker.old.pass.actor worker.old.pass.log worker.new.pass.log (L.lost worker.old.link) (L.lost worker.new.link) }
     ensures shown { worker.new.shown.items ≡ shown_of (of_actor worker.old.pass.actor worker.new.pass.log) }
     ensures ready { OnOk result (IsWorkerReady J.kind worker.new.pass worker.new.agenda worker.new.bins.items worker.new.shown.items) }
@@ -37,6 +36,7 @@ fn take_turn<R: Threads + Wait + Sync, D: Disk, J: Counting, L: Link>(
     ensures begun { OnErr result (IsSomeDone (is_honest J.kind) (volume_in J.kind).layout worker.old.pass.actor (agenda_of worker.old.agenda) worker.old.pass.log worker.new.pass.log) }
 {
     rz_block_laws::acting::begins();
+    rz_block_laws::acting::scripted();
     let _fit = worker.pass.actor();
     let layout = store.layout();
     worker.agenda.begin_next(rt, alloc, layout)?;
@@ -44,7 +44,7 @@ fn take_turn<R: Threads + Wait + Sync, D: Disk, J: Counting, L: Link>(
     let Some(machine) = &mut worker.agenda.machine else {
         return Err(Halted);
     };
-    act(
+    step(
         rt,
         alloc,
         store,
@@ -56,21 +56,6 @@ fn take_turn<R: Threads + Wait + Sync, D: Disk, J: Counting, L: Link>(
         &mut worker.shown,
     )?;
     Ok(())
-}
-
-/// Lets the lock go, unless the worker's operation still needs it.
-fn release_after<R: Wait, D: Disk, J: Counting, L: Link>(
-    rt: &R,
-    store: &SharedStore<D, J>,
-    worker: &Worker<J, L>,
-) {
-    let is_over = match &worker.agenda.machine {
-        Some(machine) => machine.is_over(),
-        None => true,
-    };
-    if is_over {
-        release(rt, &store.locks, worker.pass.actor());
-    }
 }
 
 /// Does all operations of a worker, in their order. Where memory is wanting it stops, and has done the
@@ -89,18 +74,12 @@ pub fn work<R: Threads + Wait + Sync, D: Disk, J: Counting, L: Link>(
     ensures begun { OnErr result (IsSomeDone (is_honest J.kind) (volume_in J.kind).layout worker.old.pass.actor (agenda_of worker.old.agenda) worker.old.pass.log worker.new.pass.log) }
     ensures lost { AreLost worker.old.pass.actor worker.old.pass.log worker.new.pass.log (L.lost worker.old.link) (L.lost worker.new.link) }
     ensures shown { worker.new.shown.items ≡ shown_of (of_actor worker.old.pass.actor worker.new.pass.log) }
-    ensures fit { IsFit J.kind worker.new.pass.log }
 {
-    let _fit = worker.pass.actor();
     for _ in rt.forever() {
         if !worker.agenda.has_work() {
             return Ok(());
         }
-        if let Err(why) = take_turn(rt, alloc, store, worker) {
-            release(rt, &store.locks, worker.pass.actor());
-            return Err(why);
-        }
-        release_after(rt, store, worker);
+        take_turn(rt, alloc, store, worker)?;
     }
     unreachable!()
 }

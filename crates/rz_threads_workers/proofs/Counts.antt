@@ -1,12 +1,12 @@
 -- Words that are counted one after another, while the tokens of all of them are held.
-use Rattle.std.proofs.Common.{◌≡◌, ◌≤◌, ◌<◌, ◌+◌, ◌++◌, ℕ, zero, suc, Bool, true, false, cond, List, [], ◌∷◌, Option, Some, None, length, append-nil, append_assoc, sym, refl, ap, ap₂, ◌∙◌, subst, arith}
-use Rattle.std.proofs.lemmas.List.Sums.{sum_by-cons}
+use Rattle.std.proofs.Common.{◌≡◌, ◌≤◌, ◌<◌, ◌+◌, ◌++◌, ℕ, zero, suc, List, [], ◌∷◌, Option, Some, None, length, append-nil, append_assoc, sym, refl, ap, ap₂, ◌∙◌, subst, arith}
 use Rattle.rz_events.specs.declared.events.Word.{Word}
 use Rattle.rz_events.specs.declared.events.Event.{Event}
-use Rattle.rz_chronicle.specs.Keys.{IsLater, IsOneOf, count_at, events_at, moves_of, owner, touches, word_key}
+use Rattle.rz_chronicle.specs.Keys.{IsLater, IsOneOf, events_at, moves_of, owner, word_key}
 use Rattle.rz_chronicle.specs.Holds.{Stays}
 use Rattle.rz_chronicle.specs.Rules.{PassView}
 use Rattle.rz_chronicle.proofs.Settling.{one-of-left}
+use Rattle.rz_threads_steps.proofs.Added.{count-length}
 use Rattle.rz_threads_workers.specs.Gathered.{PassGoesOn}
 use Rattle.rz_threads_workers.specs.Moves.{HoldsAll}
 
@@ -35,19 +35,10 @@ goes-further a b c p q = record {
 
 -- What a word has moved.
 
--- as many events of a key as are counted
-counted : (k : ℕ) (h : List Event) → count_at k h ≡ length (events_at k h)
-counted k [] = refl
-counted k (x ∷ h) = sum_by-cons (λ (e : Event). cond (touches k e) 1 0) x h ∙ either (touches k x) (counted k h)
-  where
-    either : (b : Bool) → count_at k h ≡ length (events_at k h) → cond b 1 0 + count_at k h ≡ length (cond b (x ∷ events_at k h) (events_at k h))
-    either true rest = omega (arith, rest)
-    either false rest = omega (arith, rest)
-
 -- a word whose token is held has moved no more
 moves-same : (w : Option Word) (old new : List Event) → ((x : Word) → w ≡ Some x → events_at (word_key x) new ≡ events_at (word_key x) old) → moves_of w new ≡ moves_of w old
 moves-same None old new same = refl
-moves-same (Some x) old new same = counted (word_key x) new ∙ (ap (λ (es : List Event). length es) (same x refl) ∙ sym (counted (word_key x) old))
+moves-same (Some x) old new same = count-length (word_key x) new ∙ (ap (λ (es : List Event). length es) (same x refl) ∙ sym (count-length (word_key x) old))
 
 moves-next : (place : ℕ) (sids : List ℕ) (h : List Event) → moves_before (suc place) sids h ≡ moves_before place sids h + moves_of (owner sids place) h
 unfolding moves_before

@@ -12,7 +12,7 @@ use Rattle.rz_script.specs.Lines.{IsOperation}
 use Rattle.rz_core.specs.History.{of_actor}
 use Rattle.rz_play_locks.specs.Operations.{given}
 use Rattle.rz_chronicle.specs.Keys.{IsLater}
-use Rattle.rz_chronicle.specs.Kinds.{IsFit, is_honest, volume_in}
+use Rattle.rz_chronicle.specs.Kinds.{is_honest, volume_in}
 use Rattle.rz_chronicle.specs.Rules.{PassView}
 use Rattle.rz_show.specs.Shown.{shown_of}
 use Rattle.rz_threads_steps.specs.Turned.{AreLost}
@@ -88,7 +88,6 @@ pub record HasWorked {J L : Type 0} (count : L → ℕ) (kind : List ℕ) (old n
   pub begun : IsSomeDone (is_honest kind) (volume_in kind).layout (actor_of old) (agenda_of old.worker.agenda) old.worker.pass.log new.worker.pass.log
   pub lost : AreLost (actor_of old) old.worker.pass.log new.worker.pass.log (count old.worker.link) (count new.worker.link)
   pub shown : new.worker.shown.items ≡ shown_of (of_actor (actor_of old) new.worker.pass.log)
-  pub fit : IsFit kind new.worker.pass.log
 
 -- What comes back.
 

@@ -1,13 +1,22 @@
 use Rattle.std.proofs.Common.{subst}
 use Rattle.rz_events.specs.Volume.{IsVolume}
 use Rattle.rz_chronicle.specs.Kinds.{volume_in}
-use Rattle.rz_threads_steps.proofs.Added.{commits-own}
+use Rattle.rz_threads_steps.proofs.Added.{Knows, commits-own}
 use Rattle.rz_threads_steps.proofs.adding.add_own.Goals as goal
 
-pub returns-clause-adds : goal.returns-clause-adds
-returns-clause-adds g c =
+pub returns : goal.returns
+returns g c =
     let kind = g.J.Naming.kind in
-    let old = c.args.pass.now in
-    let telling = c.facts_told.ensures (volume_in kind) (subst IsVolume c.requires.volume c.node_count-rules.ensures.rules) in
-    commits-own c.actors_kept.ensures kind telling (c.one_run.ensures (volume_in kind)) old.actor old.keys c.actor-own.ensures.own old.log c.finish.new.pass.log
-    c.args.event.now c.requires.by c.finish.ensures.fit c.finish.ensures.commits
+    let knows : Knows kind g.J.Naming.earlier c.args.pass.now c.finish_after.new.pass = record {
+      kept = c.actors_kept.ensures;
+      telling = c.facts_told.ensures (volume_in kind) (subst IsVolume c.requires.volume c.node_count-rules.ensures.rules);
+      rule = c.one_rule.ensures;
+      next = c.next_run.ensures (volume_in kind);
+      alone = c.added_alone.ensures;
+      mine = c.actor-own.ensures.own;
+      same = c.finish_after.ensures.same;
+      has = c.actor-own.ensures.earlier;
+      fits = (c.actor-seen.ensures.fit, c.actor-seen.ensures.after);
+      places = c.actor-seen.ensures.places;
+    } in
+    commits-own kind g.J.Naming.earlier c.args.pass.now c.finish_after.new.pass knows c.args.event.now c.requires.by c.finish_after.ensures.commits

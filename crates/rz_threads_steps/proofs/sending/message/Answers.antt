@@ -8,8 +8,12 @@ use Rattle.rz_events.specs.Volume.{Volume}
 use Rattle.rz_script_words.specs.Limits.{has_node}
 use Rattle.rz_play_laws.proofs.Scripts.{node-of}
 use Rattle.rz_chronicle.specs.Kinds.{volume_in}
+use Rattle.rz_threads_steps.proofs.Acts.{still-stopped}
 use Rattle.rz_threads_steps.proofs.Messages.{not-through-replylost, not-through-requestlost}
 use Rattle.rz_threads_steps.proofs.sending.message.Goals as goal
+
+pub returns-then-node-eq0-clause-stopped : goal.returns-then-node-eq0-clause-stopped
+returns-then-node-eq0-clause-stopped g c = λ number. still-stopped g.J.Naming.kind number c.args.pass.now c.args.machine.now
 
 pub returns-in-Through-clause-lasts : goal.returns-in-Through-clause-lasts
 returns-in-Through-clause-lasts g c = c.through.ensures.lasts
@@ -29,8 +33,8 @@ returns-in-Through-clause-unshown g c = c.through.ensures.unshown
 pub returns-in-Through-clause-acted : goal.returns-in-Through-clause-acted
 returns-in-Through-clause-acted g c = c.through.ensures.acted
 
-pub returns-in-Through-clause-cut : goal.returns-in-Through-clause-cut
-returns-in-Through-clause-cut g c = c.through.ensures.cut
+pub returns-in-Through-clause-stopped : goal.returns-in-Through-clause-stopped
+returns-in-Through-clause-stopped g c = c.through.ensures.stopped
 
 pub returns-in-ReplyLost-clause-lasts : goal.returns-in-ReplyLost-clause-lasts
 returns-in-ReplyLost-clause-lasts g c = c.without_reply.ensures.lasts
@@ -50,8 +54,8 @@ returns-in-ReplyLost-clause-unshown g c = c.without_reply.ensures.unshown
 pub returns-in-ReplyLost-clause-acted : goal.returns-in-ReplyLost-clause-acted
 returns-in-ReplyLost-clause-acted g c = c.without_reply.ensures.acted
 
-pub returns-in-ReplyLost-clause-cut : goal.returns-in-ReplyLost-clause-cut
-returns-in-ReplyLost-clause-cut g c = c.without_reply.ensures.cut
+pub returns-in-ReplyLost-clause-stopped : goal.returns-in-ReplyLost-clause-stopped
+returns-in-ReplyLost-clause-stopped g c = c.without_reply.ensures.stopped
 
 pub without_reply-requires-clause-lossy : goal.without_reply-requires-clause-lossy
 without_reply-requires-clause-lossy g c = loses-reply c.goes_by_link.result c.args.ask c.goes_by_link.ensures None c.in-ReplyLost.ensures.fared.said c.in-ReplyLost.ensures.fared.fate
@@ -74,8 +78,8 @@ returns-in-RequestLost-clause-unshown g c = c.without_request.ensures.unshown
 pub returns-in-RequestLost-clause-acted : goal.returns-in-RequestLost-clause-acted
 returns-in-RequestLost-clause-acted g c = c.without_request.ensures.acted
 
-pub returns-in-RequestLost-clause-cut : goal.returns-in-RequestLost-clause-cut
-returns-in-RequestLost-clause-cut g c = c.without_request.ensures.cut
+pub returns-in-RequestLost-clause-stopped : goal.returns-in-RequestLost-clause-stopped
+returns-in-RequestLost-clause-stopped g c = c.without_request.ensures.stopped
 
 pub without_request-requires-clause-lossy : goal.without_request-requires-clause-lossy
 without_request-requires-clause-lossy g c = loses-request c.goes_by_link.result c.args.ask c.goes_by_link.ensures None c.in-RequestLost.ensures.fared.said c.in-RequestLost.ensures.fared.fate

@@ -1,6 +1,6 @@
 use Rattle.std.proofs.Common.{◌∙◌, refl, sym}
 use Rattle.rz_chronicle.specs.Kinds.{is_honest, volume_in}
-use Rattle.rz_threads_steps.proofs.Acts.{still-lasts, lasts-on}
+use Rattle.rz_threads_steps.proofs.Acts.{still-lasts, lasts-on, on-err}
 use Rattle.rz_threads_worker.specs.Workers.{agenda_of}
 use Rattle.rz_threads_worker.proofs.Doings.{none-done, still-lost}
 use Rattle.rz_threads_worker.proofs.Workings.{done-both, lost-both, shown-at}
@@ -9,7 +9,7 @@ use Rattle.rz_threads_worker.proofs.working.work.Goals as goal
 pub loop-init : goal.loop-init
 loop-init g c =
     record {
-      lasts = still-lasts g.J.Naming.kind c.args.worker.now.pass c.actor-fit.ensures.fit;
+      lasts = still-lasts c.args.worker.now.pass;
       ready = c.requires.ready;
       done = none-done (is_honest g.J.Naming.kind) (volume_in g.J.Naming.kind).layout c.args.worker.now.pass.actor (agenda_of c.args.worker.now.agenda) c.args.worker.now.pass.log c.args.worker.now.pass.log refl;
       lost = still-lost c.args.worker.now.pass.actor c.args.worker.now.pass.log (g.L.Link.lost c.args.worker.now.link);
@@ -28,35 +28,29 @@ pub returns-then-not-has_work-clause-lost : goal.returns-then-not-has_work-claus
 returns-then-not-has_work-clause-lost g c = c.loop.invariant.lost
 
 pub returns-then-not-has_work-clause-shown : goal.returns-then-not-has_work-clause-shown
-returns-then-not-has_work-clause-shown g c = shown-at g.J.Naming.kind c.args.worker.now.pass c.loop.worker.pass c.loop.worker.pass c.loop.invariant.lasts c.loop.worker.shown.items c.loop.invariant.ready.shows
+returns-then-not-has_work-clause-shown g c = shown-at c.args.worker.now.pass c.loop.worker.pass c.loop.worker.pass c.loop.invariant.lasts c.loop.worker.shown.items c.loop.invariant.ready.shows
 
-pub returns-then-not-has_work-clause-fit : goal.returns-then-not-has_work-clause-fit
-returns-then-not-has_work-clause-fit g c = c.loop.invariant.lasts.fit
+pub returns-in_err-take_turn-clause-same : goal.returns-in_err-take_turn-clause-same
+returns-in_err-take_turn-clause-same g c =
+    let all = lasts-on c.args.worker.now.pass c.loop.worker.pass c.take_turn.new.worker.pass c.loop.invariant.lasts c.in_err-take_turn.ensures.lasts in (all.actor, all.keys)
 
-pub returns-in-Err-clause-same : goal.returns-in-Err-clause-same
-returns-in-Err-clause-same g c =
-    let all = lasts-on g.J.Naming.kind c.args.worker.now.pass c.loop.worker.pass c.take_turn.new.worker.pass c.loop.invariant.lasts c.in-Err.ensures.lasts in (all.actor, all.keys)
+pub returns-in_err-take_turn-clause-later : goal.returns-in_err-take_turn-clause-later
+returns-in_err-take_turn-clause-later g c = (lasts-on c.args.worker.now.pass c.loop.worker.pass c.take_turn.new.worker.pass c.loop.invariant.lasts c.in_err-take_turn.ensures.lasts).later
 
-pub returns-in-Err-clause-later : goal.returns-in-Err-clause-later
-returns-in-Err-clause-later g c = (lasts-on g.J.Naming.kind c.args.worker.now.pass c.loop.worker.pass c.take_turn.new.worker.pass c.loop.invariant.lasts c.in-Err.ensures.lasts).later
+pub returns-in_err-take_turn-clause-begun : goal.returns-in_err-take_turn-clause-begun
+returns-in_err-take_turn-clause-begun g c = on-err c.from_residual.result (c.in_err-take_turn.ensures.begun.0, done-both c.args.worker.now.pass c.loop.worker.pass c.take_turn.new.worker.pass c.loop.invariant.lasts (is_honest g.J.Naming.kind) (volume_in g.J.Naming.kind).layout (agenda_of c.args.worker.now.agenda) (agenda_of c.loop.worker.agenda) c.in_err-take_turn.ensures.begun.0 c.loop.invariant.done c.in_err-take_turn.ensures.begun.1)
 
-pub returns-in-Err-clause-begun : goal.returns-in-Err-clause-begun
-returns-in-Err-clause-begun g c = (c.in-Err.ensures.begun.0, done-both g.J.Naming.kind c.args.worker.now.pass c.loop.worker.pass c.take_turn.new.worker.pass c.loop.invariant.lasts (is_honest g.J.Naming.kind) (volume_in g.J.Naming.kind).layout (agenda_of c.args.worker.now.agenda) (agenda_of c.loop.worker.agenda) c.in-Err.ensures.begun.0 c.loop.invariant.done c.in-Err.ensures.begun.1)
+pub returns-in_err-take_turn-clause-lost : goal.returns-in_err-take_turn-clause-lost
+returns-in_err-take_turn-clause-lost g c = lost-both c.args.worker.now.pass c.loop.worker.pass c.take_turn.new.worker.pass c.loop.invariant.lasts (g.L.Link.lost c.args.worker.now.link) (g.L.Link.lost c.loop.worker.link) (g.L.Link.lost c.take_turn.new.worker.link) c.loop.invariant.lost c.in_err-take_turn.ensures.lost
 
-pub returns-in-Err-clause-lost : goal.returns-in-Err-clause-lost
-returns-in-Err-clause-lost g c = lost-both g.J.Naming.kind c.args.worker.now.pass c.loop.worker.pass c.take_turn.new.worker.pass c.loop.invariant.lasts (g.L.Link.lost c.args.worker.now.link) (g.L.Link.lost c.loop.worker.link) (g.L.Link.lost c.take_turn.new.worker.link) c.loop.invariant.lost c.in-Err.ensures.lost
-
-pub returns-in-Err-clause-shown : goal.returns-in-Err-clause-shown
-returns-in-Err-clause-shown g c = shown-at g.J.Naming.kind c.args.worker.now.pass c.loop.worker.pass c.take_turn.new.worker.pass c.loop.invariant.lasts c.take_turn.new.worker.shown.items c.in-Err.ensures.shown
-
-pub returns-in-Err-clause-fit : goal.returns-in-Err-clause-fit
-returns-in-Err-clause-fit g c = c.in-Err.ensures.lasts.fit
+pub returns-in_err-take_turn-clause-shown : goal.returns-in_err-take_turn-clause-shown
+returns-in_err-take_turn-clause-shown g c = shown-at c.args.worker.now.pass c.loop.worker.pass c.take_turn.new.worker.pass c.loop.invariant.lasts c.take_turn.new.worker.shown.items c.in_err-take_turn.ensures.shown
 
 pub loop-preserved : goal.loop-preserved
 loop-preserved g c =
     record {
-      lasts = lasts-on g.J.Naming.kind c.args.worker.now.pass c.loop.worker.pass c.take_turn.new.worker.pass c.loop.invariant.lasts c.in_default.ensures.lasts;
-      ready = c.in_default.ensures.ready;
-      done = done-both g.J.Naming.kind c.args.worker.now.pass c.loop.worker.pass c.take_turn.new.worker.pass c.loop.invariant.lasts (is_honest g.J.Naming.kind) (volume_in g.J.Naming.kind).layout (agenda_of c.args.worker.now.agenda) (agenda_of c.loop.worker.agenda) (agenda_of c.take_turn.new.worker.agenda) c.loop.invariant.done c.in_default.ensures.done;
-      lost = lost-both g.J.Naming.kind c.args.worker.now.pass c.loop.worker.pass c.take_turn.new.worker.pass c.loop.invariant.lasts (g.L.Link.lost c.args.worker.now.link) (g.L.Link.lost c.loop.worker.link) (g.L.Link.lost c.take_turn.new.worker.link) c.loop.invariant.lost c.in_default.ensures.lost;
+      lasts = lasts-on c.args.worker.now.pass c.loop.worker.pass c.take_turn.new.worker.pass c.loop.invariant.lasts c.in_ok-take_turn.ensures.lasts;
+      ready = c.in_ok-take_turn.ensures.ready;
+      done = done-both c.args.worker.now.pass c.loop.worker.pass c.take_turn.new.worker.pass c.loop.invariant.lasts (is_honest g.J.Naming.kind) (volume_in g.J.Naming.kind).layout (agenda_of c.args.worker.now.agenda) (agenda_of c.loop.worker.agenda) (agenda_of c.take_turn.new.worker.agenda) c.loop.invariant.done c.in_ok-take_turn.ensures.done;
+      lost = lost-both c.args.worker.now.pass c.loop.worker.pass c.take_turn.new.worker.pass c.loop.invariant.lasts (g.L.Link.lost c.args.worker.now.link) (g.L.Link.lost c.loop.worker.link) (g.L.Link.lost c.take_turn.new.worker.link) c.loop.invariant.lost c.in_ok-take_turn.ensures.lost;
     }

@@ -1,8 +1,8 @@
 -- What a machine asks.
 use Rattle.std.specs.Prelude.{◌≡◌}
 use Rattle.rz_operation_model.specs.Ask.{Ask, AskNode}
-use Rattle.rz_threads_worker.specs.declared.worker_acts.AskKind.{AskKind}
-use Rattle.rz_threads_worker.specs.declared.worker_acts.AskKind.TheVariants as kind
+use Rattle.rz_threads_steps.specs.declared.stepping.AskKind.{AskKind}
+use Rattle.rz_threads_steps.specs.declared.stepping.AskKind.TheVariants as kind
 
 -- what is asked of a node is of this kind
 abbrev pub IsAskKind : Ask → AskKind → Type 0
