@@ -1,5 +1,5 @@
 //! PoolWorkers at work, each on its thread, and the administrator beside them.
-ghost use Rattle.std.specs.Prelude.{◌≡◌};
+ghost use Rattle.std.specs.Prelude.{◌≡◌, ◌<◌, ◌≤◌, length};
 ghost use Rattle.std.specs.List.{AllByRecursion, AllZip};
 ghost use Rattle.rz_script.specs.Lines.{AreLines};
 ghost use Rattle.rz_chronicle.specs.Kinds.{volume_in};
@@ -19,9 +19,6 @@ use std::alloc::Global;
 use std::sync::Wait;
 use std::thread::{Threads, for_each_mut, join};
 
-/// At most so many threads are at work for the workers, which is as many as there are clients and rebuilders.
-const THREADS: usize = 80;
-
 /// A worker does its operations, and notes whether memory was wanting.
 #[tactic(auto, using(crate::proofs::Working::all_begun))]
 fn work_one<R: Threads + Wait + Sync, D: Disk, J: Counting, L: Link>(
@@ -37,8 +34,64 @@ fn work_one<R: Threads + Wait + Sync, D: Disk, J: Counting, L: Link>(
     pool_worker.wanting = work(rt, alloc, store, &mut pool_worker.worker).is_err();
 }
 
-/// All workers do their operations, each on a thread of its own where one can be made. It comes back when
-/// the last of them has stopped.
+/// Workers do their operations on so many threads, or fewer. Workers of one thread do theirs one after another, so
+/// none may wait for another.
+fn work_each<R: Threads + Wait + Sync, D: Disk + Send, J: Counting + Send + Sync, L: Link + Send>(
+    rt: &R,
+    alloc: Global,
+    store: &SharedStore<D, J>,
+    threads: usize,
+    workers: &mut [PoolWorker<J, L>],
+)
+    requires threads { 0 < threads }
+    requires volume { store.now.volume ≡ volume_in J.kind }
+    requires ready { AllByRecursion (CanWork J.kind) workers.old }
+    ensures { AllZip (HasWorked L.lost J.kind) workers.old workers.new }
+{
+    for_each_mut(
+        rt,
+        workers,
+        threads,
+        &move |_place: usize, pool_worker: &mut PoolWorker<J, L>|
+            requires { (store.now.volume ≡ volume_in J.kind) × CanWork J.kind pool_worker.old }
+            ensures { HasWorked L.lost J.kind pool_worker.old pool_worker.new }
+        { work_one(rt, alloc, store, pool_worker) },
+    );
+}
+
+/// Whether a worker has something to do.
+fn is_busy<J: Counting, L: Link>(pool_worker: &PoolWorker<J, L>) -> bool {
+    !pool_worker.worker.agenda.todo.is_empty()
+}
+
+/// How many workers stand before the first that has something to do.
+fn idle_before<J: Counting, L: Link>(workers: &[PoolWorker<J, L>]) -> usize
+    ensures { result ≤ length workers.now }
+{
+    for place in 0..workers.len() {
+        if is_busy(&workers[place]) {
+            return place;
+        }
+    }
+    workers.len()
+}
+
+/// How many workers stand up to the last that has something to do.
+fn up_to_last<J: Counting, L: Link>(workers: &[PoolWorker<J, L>]) -> usize
+    ensures { result ≤ length workers.now }
+{
+    let mut count = 0;
+    for place in 0..workers.len() {
+        if is_busy(&workers[place]) {
+            count = place + 1;
+        }
+    }
+    count
+}
+
+/// All workers do their operations. Each that has something to do is on a thread of its own where one can be made,
+/// and so is each that stands between two of these; the others begin none. It comes back when the last of them has
+/// stopped.
 pub fn work_all<
     R: Threads + Wait + Sync,
     D: Disk + Send,
@@ -49,15 +102,13 @@ pub fn work_all<
     requires ready { AllByRecursion (CanWork J.kind) workers.old }
     ensures { AllZip (HasWorked L.lost J.kind) workers.old workers.new }
 {
-    for_each_mut(
-        rt,
-        workers,
-        THREADS,
-        &move |_place: usize, pool_worker: &mut PoolWorker<J, L>|
-            requires { (store.now.volume ≡ volume_in J.kind) × CanWork J.kind pool_worker.old }
-            ensures { HasWorked L.lost J.kind pool_worker.old pool_worker.new }
-        { work_one(rt, alloc, store, pool_worker) },
-    );
+    let first = idle_before(workers);
+    let (idle, rest) = workers.split_at_mut(first);
+    let count = up_to_last(rest);
+    let (busy, last) = rest.split_at_mut(count);
+    work_each(rt, alloc, store, 1, idle);
+    work_each(rt, alloc, store, count.max(1), busy);
+    work_each(rt, alloc, store, 1, last);
 }
 
 /// The same with workers that come by value.
