@@ -9,9 +9,14 @@
 //! disks as is said. Where one does not open, or memory is wanting, all disks come back as they came, and the
 //! contract says which disk was the first that did not open and why.
 //!
-//! In reading order: `nodes`, `fault`, `back`, `formatting`, `refusal`, `opening`.
+//! [`open_each`] takes what there is: a disk may be absent, may not open, or may be one that its node had
+//! before, which its fence tells. Then that node is away, the others are opened all the same, and the contract
+//! says which and why.
+//!
+//! In reading order: `nodes`, `fault`, `back`, `formatting`, `refusal`, `opening`, `arriving`.
 #![tactic(auto)]
 
+mod arriving;
 mod back;
 mod fault;
 mod formatting;
@@ -19,6 +24,7 @@ mod nodes;
 mod opening;
 mod refusal;
 
+pub use arriving::{Arrival, KnownNode, Missing, open_each};
 pub use back::hand_back;
 pub use fault::DriverFault;
 pub use formatting::{Server, format_all};

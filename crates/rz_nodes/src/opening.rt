@@ -54,7 +54,7 @@ pub fn open_all<D: Disk>(
 }
 
 /// A node that lost so many disks, on its disk, which is opened.
-fn open_one<D: Disk>(
+pub(crate) fn open_one<D: Disk>(
     alloc: Global,
     layout: Layout,
     node: NodeSpec,
