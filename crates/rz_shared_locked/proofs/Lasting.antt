@@ -1,8 +1,13 @@
 -- What lasts while others act, and what may be added, by the laws of the log.
-use Rattle.std.proofs.Common.{◌≡◌, ◌<◌, ◌-◌, ◌^◌, ℕ, List, ◌++◌, Option, Some, None, length, refl, sym, ap, ◌∙◌, subst, arith}
+use Rattle.std.proofs.Common.{◌≡◌, ◌<◌, ◌-◌, ◌^◌, ℕ, List, [], ◌∷◌, ◌++◌, map, Option, Some, None, length, refl, sym, ap, ◌∙◌, subst, arith}
+use Rattle.std.specs.Option.{option_map}
+use Rattle.std.specs.FinMap as maps
+use Rattle.rz_events.specs.Keys.{key_cmp}
 use Rattle.rz_events.specs.Volume.{Volume}
 use Rattle.rz_events.specs.declared.keys.Actor.{Actor}
 use Rattle.rz_events.specs.declared.records.Head.{Head}
+use Rattle.rz_events.specs.declared.records.Held.{Held}
+use Rattle.rz_events.specs.declared.nodes.Phase.TheVariants.{Lost}
 use Rattle.rz_events.specs.declared.nodes.FetchAnswer.TheVariants as fetch
 use Rattle.rz_events.specs.declared.nodes.NodeAsk.{NodeAsk}
 use Rattle.rz_events.specs.declared.nodes.NodeAsk.TheVariants as ask
@@ -12,18 +17,21 @@ use Rattle.rz_events.specs.declared.events.Word.TheVariants.{Node}
 use Rattle.rz_events.specs.declared.events.Event.{Event}
 use Rattle.rz_events.specs.declared.events.Event.TheVariants as e
 use Rattle.rz_events.specs.Events.{by_of}
+use Rattle.rz_node_model.specs.Records.{listed}
 use Rattle.rz_node_model.specs.States.{NodeState}
 use Rattle.rz_node_model.specs.Afterwards.{after_answer}
+use Rattle.rz_node_model.proofs.RecordLaws.{whole-empty}
 use Rattle.rz_core.specs.History.{Begun, facts, of_word, of_actor}
+use Rattle.rz_core.specs.NodeWord.{phase, undecided}
 use Rattle.rz_core.specs.Legal.{IsLegalAfter}
 use Rattle.rz_core.specs.HeldRecords.{record_on}
 use Rattle.rz_core.specs.Longer.{IsNextRun, IsPermanent}
-use Rattle.rz_core.specs.Tied.{IsNode, IsProperAsk, IsNodeStep, IsNodeLaw}
+use Rattle.rz_core.specs.Tied.{record_in, pending_in, IsNode, IsProperAsk, IsNodeStep, IsNodeLaw}
+use Rattle.rz_core.proofs.NodeLaws.{rows, lost-empty}
 use Rattle.rz_log_laws.specs.Beside.{IsNodeKept, IsAskKept, IsArming}
 use Rattle.rz_node_laws.specs.Records.{IsRecordOf, HandsRecord}
-use Rattle.rz_node_laws.specs.Laws.{IsLongerLaw}
 use Rattle.rz_chronicle.specs.Keys.{IsLater, events_at, word_key, actor_key}
-use Rattle.rz_shared_locked.specs.Laws.{IsLockedNodeKept, IsAskerKept, IsReadKept, IsAnswerLaw, IsArmLaw}
+use Rattle.rz_shared_locked.specs.Laws.{IsAskerKept, IsReadKept, IsAnswerLaw, IsArmLaw, IsLostLaw}
 use Rattle.rz_shared_locked.proofs.Behind.{word-behind, actor-behind, later-behind}
 
 abbrev pub AreWordsKept : Type 0
@@ -36,7 +44,7 @@ abbrev pub ArePermanent : Type 0
 ArePermanent = (h more : List Event) → IsPermanent h more
 
 -- a state that is tied stays so
-node-later : (v : Volume) → IsNextRun v → IsNodeKept v → AreWordsKept → (earlier old new : List Event) (n : ℕ) (s : NodeState) → IsLegalAfter v earlier old → IsLater old new
+pub node-later : (v : Volume) → IsNextRun v → IsNodeKept v → AreWordsKept → (earlier old new : List Event) (n : ℕ) (s : NodeState) → IsLegalAfter v earlier old → IsLater old new
     → events_at (word_key (Node n)) new ≡ events_at (word_key (Node n)) old → IsNode (facts (old ++ earlier)) (of_word (Node n) (old ++ earlier)) s
     → IsNode (facts (new ++ earlier)) (of_word (Node n) (new ++ earlier)) s
 node-later v next kept words earlier old new n s legal later same tied =
@@ -54,13 +62,6 @@ ask-later v next kept actors earlier old new by n question legal later same prop
     let it : of_actor by (later.0 ++ (old ++ earlier)) ≡ of_actor by (old ++ earlier) =
     subst (λ (h : List Event). of_actor by h ≡ of_actor by (old ++ earlier)) is (actor-behind by earlier new old (actors by new old same)) in
     subst (λ (h : List Event). IsProperAsk v (facts h) (of_actor by h) by n question) (sym is) (kept (old ++ earlier) later.0 by n question (next earlier old legal) it proper)
-
-pub locked_node-kept : {D : Type 0} (image : D → List ℕ → Type 0) (v : Volume) → IsNextRun v → IsNodeKept v → IsLongerLaw image → AreWordsKept → IsLockedNodeKept image v
-locked_node-kept {D = D} image v next kept longer words earlier old new n node legal later same logged = record {
-  tied = node-later v next kept words earlier old new n node.state legal later same logged.tied;
-  imaged = subst (λ (h : List Event). Rattle.rz_node_laws.specs.Images.IsImaged v (facts h) n node.state node.geometry (image node.disk)) (sym (later-behind old new earlier later))
-      (longer v (old ++ earlier) later.0 n node.geometry node.state node.disk logged.imaged);
-}
 
 -- a record whose write is known stays that of its write
 record-stays : (v : Volume) (n stamp : ℕ) (b c : Option Begun) (p q : Option (List ℕ)) (r : Head × List ℕ) → ((x : Begun) → b ≡ Some x → c ≡ Some x) → ((x : List ℕ) → p ≡ Some x → q ≡ Some x)
@@ -137,3 +138,28 @@ arm-law v next arming kept words earlier h by n k pick s at = record {
     step : (g : List Event) → IsLegalAfter v earlier g → IsNode (facts (g ++ earlier)) (of_word (Node n) (g ++ earlier)) s → length (of_word (Node n) (g ++ earlier)) < 2 ^ 64 - 1
         → IsNodeStep v (g ++ earlier) n (e.Armed n k pick) s
     step g legal tied few = arming (g ++ earlier) n k pick s (record { legal = next earlier g legal; of_volume = at.of_volume; tied = tied; room = few })
+
+-- A node that is lost has no change undecided, and holds nothing.
+
+lost-decided : (w : List Event) → phase w ≡ Lost → undecided w ≡ None
+lost-decided [] lost = refl
+lost-decided (e.Broke by m c ∷ w) lost = absurd (cc)
+lost-decided (e.Start m took ∷ w) lost = refl
+lost-decided (e.Lose m l ∷ w) lost = refl
+lost-decided (e.Stop m ∷ w) lost = absurd (cc)
+lost-decided (e.Replace by m l fence ∷ w) lost = absurd (cc)
+lost-decided (x ∷ w) lost = lost-decided w lost
+
+pub lost-law : (v : Volume) → IsNextRun v → IsLostLaw v
+lost-law v next earlier h n s legal tied is =
+    let g = h ++ earlier in
+    let w = of_word (Node n) g in
+    let at_last : phase w ≡ Lost = sym tied.phase_is ∙ is in
+    record {
+      phase_is = sym at_last;
+      fence_is = tied.fence_is;
+      losses_is = tied.losses_is;
+      held_is = λ key. ap listed (maps.get-empty {X = List Held} key_cmp key) ∙ ap (map (record_in (facts g))) (sym (lost-empty v (facts g) w (rows v g (next earlier h legal) n) key at_last));
+      whole = whole-empty;
+      undecided_is = ap (option_map (pending_in (facts g))) (sym (lost-decided w at_last));
+    }

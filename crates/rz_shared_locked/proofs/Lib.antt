@@ -10,3 +10,6 @@ mod LockedExports
 mod Meters
 mod Picks
 mod Texts
+mod Journaled
+mod Occupants
+mod Swaps

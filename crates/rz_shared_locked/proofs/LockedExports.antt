@@ -1,44 +1,41 @@
 -- A call under the lock of the export: the log before it, its event, and the export after it.
-use Rattle.std.proofs.Common.{◌≡◌, ◌<◌, ◌-◌, ◌^◌, ℕ, IsTrue, List, [], ◌∷◌, ◌++◌, length, Option, Some, None, refl, sym, ap, ◌∙◌, subst, inl, inr}
+use Rattle.std.proofs.Common.{◌≡◌, ◌<◌, ◌-◌, ◌^◌, ℕ, IsTrue, List, [], ◌∷◌, ◌++◌, length, Option, Some, None, Result, Ok, Err, IfOk, IfErr, OnErr, refl, sym, ap, ◌∙◌, subst, inl, inr}
 use Rattle.std.specs.Prelude.{unwrap_or}
 use Rattle.rz_events.specs.declared.keys.Actor.{Actor}
-use Rattle.rz_events.specs.declared.keys.Actor.TheVariants.{Admin}
 use Rattle.rz_events.specs.declared.export.Call.{Call}
 use Rattle.rz_events.specs.declared.export.Reply.{Reply}
-use Rattle.rz_events.specs.declared.export.Reply.TheVariants as reply
 use Rattle.rz_events.specs.declared.events.Word.TheVariants.{Export}
 use Rattle.rz_events.specs.declared.events.Event.{Event}
 use Rattle.rz_events.specs.Events.{by_of, word_of}
 use Rattle.rz_export_model.specs.Export.{Export as State, export_reply, export_after}
 use Rattle.rz_export_model.specs.ExportEvents.{export_event}
-use Rattle.rz_export.specs.Calls.{MayWant, IsAnswered}
 use Rattle.rz_core.specs.History.{facts, of_word, of_actor}
 use Rattle.rz_core.specs.Legal.{IsLegalAfter}
 use Rattle.rz_core.specs.Tied.{IsExport, IsProperCall}
 use Rattle.rz_play.specs.Lines.{noted}
+use Rattle.rz_journal.specs.Seen.{calls_after}
+use Rattle.rz_restart_laws.specs.Calls.{changing_calls}
 use Rattle.rz_chronicle.specs.Keys.{IsOneOf, word_key, actor_key}
 use Rattle.rz_chronicle.specs.Kinds.{keeps_legal, volume_in}
 use Rattle.rz_chronicle.specs.Holds.{Commits}
 use Rattle.rz_chronicle.specs.Tokens.{mark}
 use Rattle.rz_shared_locked.specs.Adding.{MayBeNext}
-use Rattle.rz_shared_locked.specs.LockedExports.{Replied, RepliedAfter, event_given}
-use Rattle.rz_shared_locked.specs.Laws.{IsLockedExportKept, IsLockedExportStep, IsReplyLaw}
-use Rattle.rz_shared_locked.proofs.Behind.{alone, honest-keeps}
+use Rattle.rz_shared_locked.specs.LockedExports.{Replied, event_given}
+use Rattle.rz_shared_locked.specs.Laws.{AreCallsAdded, IsLockedExportKept, IsLockedExportStep, IsReplyLaw}
 use Rattle.rz_shared_locked.proofs.Logs.{stays-fewer}
-use Rattle.rz_chronicle.proofs.Histories.{later-self}
-use Rattle.rz_shared_locked.proofs.Replies.{event-of, no-memory, reply-event, volume-after}
+use Rattle.rz_shared_locked.proofs.Replies.{event-of, reply-event}
 
--- memory was wanting, and nothing changed
-pub wanting : (s : State) (q : Call) (given : Reply) (new : State) → IsAnswered s q given new → given ≡ reply.NoMemory → MayWant s q × (new ≡ s)
-wanting s q given new (inr r) none = (r.0, r.2)
-wanting s q given new (inl r) none =
-    let some = reply-event Admin q s in
-    let clash : None ≡ Some some.0 = sym (no-memory Admin q) ∙ (ap (export_event Admin q) (sym none ∙ r.0) ∙ some.1) in absurd (cc)
+pub ok-then : {A E : Type 0} (P Q : A → Type 0) (r : Result A E) → ((a : A) → P a → Q a) → IfOk r P → IfOk r Q
+ok-then P Q (Ok a) goes it = goes a it
+ok-then P Q (Err e) goes it = tt
 
--- the reply is that of the export
-pub replied : (s : State) (q : Call) (given : Reply) (new : State) → IsAnswered s q given new → (given ≡ reply.NoMemory → ⊥) → (given ≡ export_reply s q) × (new ≡ export_after s q)
-replied s q given new (inl r) some = r
-replied s q given new (inr r) some = absurd (some r.1)
+pub err-then : {A E P Q : Type 0} (r : Result A E) → (P → Q) → OnErr r P → OnErr r Q
+err-then (Ok a) goes it = tt
+err-then (Err e) goes it = goes it
+
+pub fault-then : {A E : Type 0} (P Q : E → Type 0) (r : Result A E) → ((e : E) → P e → Q e) → IfErr r P → IfErr r Q
+fault-then P Q (Ok a) goes it = tt
+fault-then P Q (Err e) goes it = goes e it
 
 -- What is known once the export has replied: `h` is the log that the pass and the locked export have seen.
 module _ (kind : List ℕ) (earlier h : List Event) (by : Actor) (q : Call) (given : Reply) (s new_s : State) (laws : IsReplyLaw (volume_in kind)) (kept : IsLockedExportKept (volume_in kind))
@@ -63,9 +60,6 @@ module _ (kind : List ℕ) (earlier h : List Event) (by : Actor) (q : Call) (giv
   pub may-come : MayBeNext kind earlier h (event_given by q given)
   may-come = subst (MayBeNext kind earlier h) (sym same) (λ keeps. (step keeps).allowed)
 
-  pub volume-kept : new_s.volume ≡ volume_in kind
-  volume-kept = ap (λ (e : State). e.volume) done.1 ∙ volume-after q s ∙ of_volume
-
   module _ (ks : List ℕ) (new : List Event) (it : Commits (word_key Export ∷ ks) h (event_given by q given) new) (own : IsOneOf (actor_key by) ks) (new_fit : IsTrue (keeps_legal kind) → IsLegalAfter (volume_in kind) earlier new) where
     last : new ≡ x ∷ it.before
     last = it.last ∙ ap (λ (e : Event). e ∷ it.before) same
@@ -75,7 +69,11 @@ module _ (kind : List ℕ) (earlier h : List Event) (by : Actor) (q : Call) (giv
         (subst (λ (g : List Event). IsExport (volume_in kind) (facts (g ++ earlier)) (of_word Export (g ++ earlier)) (export_after s q)) (sym last)
         ((step keeps).tied it.before it.later (it.stays (word_key Export) (inl refl)) (it.stays (actor_key by) (inr own)) (subst (IsLegalAfter (volume_in kind) earlier) last (new_fit keeps))))
 
-    pub replied-so : RepliedAfter kind earlier q given (export_event by q given) ks h new
+    pub calls-after : AreCallsAdded (volume_in kind) → IsTrue (keeps_legal kind) → changing_calls (new ++ earlier) ≡ calls_after given q (changing_calls (h ++ earlier))
+    calls-after added keeps = subst (λ (g : List Event). changing_calls (g ++ earlier) ≡ calls_after given q (changing_calls (h ++ earlier))) (sym last)
+        (added earlier h it.before by q given x (fit keeps) (subst (IsLegalAfter (volume_in kind) earlier) last (new_fit keeps)).0 it.later (it.stays (word_key Export) (inl refl)) (may keeps) is)
+
+    pub replied-so : Replied kind earlier q given (export_event by q given) ks h new
     replied-so = record {
       adds = record {
         before = it.before;
@@ -86,35 +84,7 @@ module _ (kind : List ℕ) (earlier h : List Event) (by : Actor) (q : Call) (giv
       right = record {
         state = s;
         of_volume = of_volume;
-        is = inl done.0;
+        is = done.0;
         tied = λ keeps. kept earlier h it.before s (fit keeps) it.later (it.stays (word_key Export) (inl refl)) (tied keeps);
       };
     }
-
--- where memory was wanting, nothing is added
-pub unadded : (kind : List ℕ) (earlier h : List Event) (by : Actor) (q : Call) (given : Reply) (s : State) (ks : List ℕ) → s.volume ≡ volume_in kind
-    → (IsTrue (keeps_legal kind) → IsExport (volume_in kind) (facts (h ++ earlier)) (of_word Export (h ++ earlier)) s) → MayWant s q → given ≡ reply.NoMemory
-    → RepliedAfter kind earlier q given (export_event by q given) ks h h
-unadded kind earlier h by q given s ks of_volume tied wants none = record {
-  adds = record {
-    before = h;
-    later = later-self h;
-    stays = λ k one. refl;
-    last = sym (ap (λ (o : Option Event). noted o h) (ap (export_event by q) none ∙ no-memory by q));
-  };
-  right = record { state = s; of_volume = of_volume; is = inr (wants, none); tied = tied };
-}
-
--- Without an earlier log.
-
-pub replied-alone : (kind : List ℕ) (earlier : List Event) → earlier ≡ [] → (q : Call) (given : Reply) (event : Option Event) (ks : List ℕ) (old new : List Event)
-    → RepliedAfter kind earlier q given event ks old new → Replied kind q given event ks old new
-replied-alone kind earlier none q given event ks old new it = record {
-  adds = it.adds;
-  right = record {
-    state = it.right.state;
-    of_volume = it.right.of_volume;
-    is = it.right.is;
-    tied = λ honest. subst (λ (h : List Event). IsExport (volume_in kind) (facts h) (of_word Export h) it.right.state) (alone it.adds.before earlier none) (it.right.tied (honest-keeps kind honest));
-  };
-}

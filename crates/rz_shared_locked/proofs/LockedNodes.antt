@@ -1,5 +1,5 @@
 -- A call under the lock of a node: the log before it, its event, and the node after it.
-use Rattle.std.proofs.Common.{◌≡◌, ◌<◌, ◌-◌, ◌^◌, ℕ, IsTrue, IfSome, List, [], ◌∷◌, ◌++◌, length, Option, Some, None, refl, sym, ap, ◌∙◌, subst, inl, inr}
+use Rattle.std.proofs.Common.{◌≡◌, ◌<◌, ◌-◌, ◌^◌, ℕ, Bool, true, false, IsTrue, IfSome, List, [], ◌∷◌, ◌++◌, length, Option, Some, None, refl, sym, ap, ◌∙◌, subst, inl, inr}
 use Rattle.rz_events.specs.Volume.{Volume}
 use Rattle.rz_events.specs.declared.keys.Actor.{Actor}
 use Rattle.rz_events.specs.declared.nodes.NodeAsk.{NodeAsk}
@@ -7,13 +7,11 @@ use Rattle.rz_events.specs.declared.nodes.NodeAnswer.{NodeAnswer}
 use Rattle.rz_events.specs.declared.events.Word.TheVariants.{Node}
 use Rattle.rz_events.specs.declared.events.Event.{Event}
 use Rattle.rz_events.specs.Events.{by_of, word_of}
-use Rattle.rz_cells_slots.specs.declared.geometry.Geometry.{Geometry}
 use Rattle.rz_node_model.specs.States.{NodeState}
 use Rattle.rz_node_model.specs.Answers.{IsNodeAnswer}
 use Rattle.rz_node_model.specs.Afterwards.{after_answer}
 use Rattle.rz_node_model.specs.NodeEvents.{node_event}
-use Rattle.rz_node.specs.View.{NodeView}
-use Rattle.rz_core.specs.History.{facts, of_word}
+use Rattle.rz_core.specs.History.{Facts, facts, of_word}
 use Rattle.rz_core.specs.NodeRows.{cells_of, IsNodeOf}
 use Rattle.rz_core.specs.Legal.{IsLegalAfter}
 use Rattle.rz_core.specs.Tied.{IsNode, IsOpening}
@@ -23,10 +21,13 @@ use Rattle.rz_node_laws.specs.Laws.{IsLongerLaw}
 use Rattle.rz_chronicle.specs.Keys.{IsLater, IsOneOf, events_at, word_key, actor_key}
 use Rattle.rz_chronicle.specs.Kinds.{keeps_legal, volume_in}
 use Rattle.rz_shared_locked.specs.Adding.{AddsEvent, MayBeNext}
-use Rattle.rz_shared_locked.specs.LockedNodes.{IsLogged, MayAsk, IsAskerRight, Answered, IsAnswerAfter, AnsweredAfter}
+use Rattle.rz_shared_locked.specs.LockedNodes.{MayAsk, IsAskerRight, Answered}
+use Rattle.rz_shared_locked.specs.declared.occupant.Occupant.{Occupant}
+use Rattle.rz_shared_locked.specs.declared.occupant.Occupant.TheVariants.{Here, Away}
+use Rattle.rz_shared_locked.specs.Occupants.{IsIn, AreImaged, IsBehindLock}
 use Rattle.rz_shared_locked.specs.Laws.{IsLockedNodeKept, IsAllowedLater, IsAnswerLaw}
 use Rattle.rz_shared_locked.proofs.Logs.{later-trans, later-event, adds-fewer}
-use Rattle.rz_shared_locked.proofs.Behind.{later-behind, alone, honest-keeps}
+use Rattle.rz_shared_locked.proofs.Behind.{later-behind}
 use Rattle.rz_shared_locked.proofs.Events.{event-of, event-none}
 use Rattle.rz_shared_locked.proofs.Lasting.{AreWordsKept}
 use Rattle.rz_shared_locked.proofs.Meters.{noted-own}
@@ -44,11 +45,24 @@ pub later-adds : (ks : List ℕ) (old : List Event) (event : Option Event) (new 
 later-adds ks old event new adds =
     subst (IsLater old) (sym adds.last) (later-trans old adds.before (noted event adds.before) adds.later (later-noted adds.before event))
 
--- The locked node that has entered has what the log gives.
-pub entered : {D : Type 0} (image : D → List ℕ → Type 0) (kind : List ℕ) (earlier : List Event) (n : ℕ) (node : NodeView D) (old new : List Event) → IsLockedNodeKept image (volume_in kind)
+-- Who stands behind the lock, while the log grows by other events.
+
+pub imaged-later : {D : Type 0} (image : D → List ℕ → Type 0) → IsLongerLaw image → (v : Volume) (earlier old new : List Event) (n : ℕ) (who : Occupant D) → IsLater old new
+    → AreImaged image v (facts (old ++ earlier)) n who → AreImaged image v (facts (new ++ earlier)) n who
+imaged-later image longer v earlier old new n (Here node) later imaged =
+    subst (λ (g : List Event). IsImaged v (facts g) n node.state node.geometry (image node.disk)) (sym (later-behind old new earlier later))
+    (longer v (old ++ earlier) later.0 n node.geometry node.state node.disk imaged)
+imaged-later image longer v earlier old new n (Away a) later imaged = tt
+
+pub behind-later : {D : Type 0} (tells : Bool) (image : D → List ℕ → Type 0) (kind : List ℕ) (earlier : List Event) (n : ℕ) (who : Occupant D) (old new : List Event) → IsLockedNodeKept (volume_in kind) → IsLongerLaw image
     → (IsTrue (keeps_legal kind) → IsLegalAfter (volume_in kind) earlier old) → IsLater old new → events_at (word_key (Node n)) new ≡ events_at (word_key (Node n)) old
-    → (IsTrue (keeps_legal kind) → IsLogged image (volume_in kind) (old ++ earlier) n node) → IsTrue (keeps_legal kind) → IsLogged image (volume_in kind) (new ++ earlier) n node
-entered image kind earlier n node old new kept fit later same logged keeps = kept earlier old new n node (fit keeps) later same (logged keeps)
+    → IsBehindLock tells image kind (old ++ earlier) n who → IsBehindLock tells image kind (new ++ earlier) n who
+behind-later tells image kind earlier n who old new kept longer fit later same it = record {
+  state = it.state;
+  is_in = it.is_in;
+  tied = λ keeps. kept earlier old new n it.state (fit keeps) later same (it.tied keeps);
+  imaged = λ keeps. ((it.imaged keeps).0, imaged-later image longer (volume_in kind) earlier old new n who later (it.imaged keeps).1);
+}
 
 -- What is known once a node has answered: `h` is the log that the pass and the locked node have seen.
 pub record Served (kind : List ℕ) (earlier h : List Event) (by : Actor) (n : ℕ) (question : NodeAsk) (given : NodeAnswer) (s : NodeState) : Type 0 where
@@ -72,56 +86,65 @@ module _ (kind : List ℕ) (earlier h : List Event) (by : Actor) (n : ℕ) (ques
   pub may-come : IfSome (node_event by n question given) (λ x. MayBeNext kind earlier h x)
   may-come = if-some (λ x. MayBeNext kind earlier h x) (node_event by n question given) (λ x is keeps. (step-of x is keeps).allowed)
 
-  module _ {D : Type 0} (image : D → List ℕ → Type 0) (kept : IsLockedNodeKept image (volume_in kind)) (longer : IsLongerLaw image) (old after : NodeView D) (was : old.state ≡ s) (logged : IsTrue (keeps_legal kind) → IsLogged image (volume_in kind) (h ++ earlier) n old)
-      (ks : List ℕ) (new : List Event) (adds : AddsEvent (word_key (Node n) ∷ ks) h (node_event by n question given) new) (own : IsOneOf (actor_key by) ks) (fit : IsTrue (keeps_legal kind) → IsLegalAfter (volume_in kind) earlier new) where
+  module _ (kept : IsLockedNodeKept (volume_in kind)) (ks : List ℕ) (new : List Event) (adds : AddsEvent (word_key (Node n) ∷ ks) h (node_event by n question given) new) (own : IsOneOf (actor_key by) ks)
+      (fit : IsTrue (keeps_legal kind) → IsLegalAfter (volume_in kind) earlier new) where
     same-word : events_at (word_key (Node n)) adds.before ≡ events_at (word_key (Node n)) h
     same-word = adds.stays (word_key (Node n)) (inl refl)
 
-    -- just before the event the node is still as it was
-    before-logged : IsTrue (keeps_legal kind) → IsLogged image (volume_in kind) (adds.before ++ earlier) n old
-    before-logged keeps = kept earlier h adds.before n old (it.fit keeps) adds.later same-word (logged keeps)
+    -- just before the event the node is still in its state
+    before-tied : IsTrue (keeps_legal kind) → IsNode (facts (adds.before ++ earlier)) (of_word (Node n) (adds.before ++ earlier)) s
+    before-tied keeps = kept earlier h adds.before n s (it.fit keeps) adds.later same-word (it.tied keeps)
 
-    pub right-at : IsAnswerAfter kind earlier adds.before n question given
-    right-at = record {
-      state = s;
-      is = it.right;
-      tied = λ keeps. subst (IsNode (facts (adds.before ++ earlier)) (of_word (Node n) (adds.before ++ earlier))) was (before-logged keeps).tied;
-      opening = it.opening;
+    pub tied-after : IsTrue (keeps_legal kind) → IsNode (facts (new ++ earlier)) (of_word (Node n) (new ++ earlier)) (after_answer question given s)
+    tied-after keeps = go (node_event by n question given) refl adds.last
+      where
+        go : (o : Option Event) → node_event by n question given ≡ o → new ≡ noted o adds.before → IsNode (facts (new ++ earlier)) (of_word (Node n) (new ++ earlier)) (after_answer question given s)
+        go None is last = subst (IsNode (facts (new ++ earlier)) (of_word (Node n) (new ++ earlier))) (sym (event-none by n (cells_of (volume_in kind) n) question given s it.right is))
+            (subst (λ (g : List Event). IsNode (facts (g ++ earlier)) (of_word (Node n) (g ++ earlier)) s) (sym last) (before-tied keeps))
+        go (Some x) is last = subst (λ (g : List Event). IsNode (facts (g ++ earlier)) (of_word (Node n) (g ++ earlier)) (after_answer question given s)) (sym last)
+            ((step-of x is keeps).tied adds.before adds.later same-word (adds.stays (actor_key by) (inr own)) (subst (IsLegalAfter (volume_in kind) earlier) last (fit keeps)))
+
+    pub answered : Answered kind earlier n question given (node_event by n question given) ks h new
+    answered = record {
+      adds = adds-fewer (word_key (Node n)) ks h new (node_event by n question given) adds;
+      right = record { state = s; is = it.right; tied = before-tied; opening = it.opening };
     }
 
-    tied-after : (o : Option Event) → node_event by n question given ≡ o → new ≡ noted o adds.before → IsTrue (keeps_legal kind) → IsNode (facts (new ++ earlier)) (of_word (Node n) (new ++ earlier)) (after_answer question given s)
-    tied-after None is last keeps =
-        subst (IsNode (facts (new ++ earlier)) (of_word (Node n) (new ++ earlier))) (was ∙ sym (event-none by n (cells_of (volume_in kind) n) question given s it.right is))
-        (subst (λ (g : List Event). IsNode (facts (g ++ earlier)) (of_word (Node n) (g ++ earlier)) old.state) (sym last) (before-logged keeps).tied)
-    tied-after (Some x) is last keeps =
-        subst (λ (g : List Event). IsNode (facts (g ++ earlier)) (of_word (Node n) (g ++ earlier)) (after_answer question given s)) (sym last)
-        ((step-of x is keeps).tied adds.before adds.later same-word (adds.stays (actor_key by) (inr own)) (subst (IsLegalAfter (volume_in kind) earlier) last (fit keeps)))
+    -- who stands there then is in the state that the log gives
+    pub behind-after : {D : Type 0} (tells : Bool) (image : D → List ℕ → Type 0) → IsLongerLaw image → (was after : Occupant D) → IsIn was s → (IsTrue (keeps_legal kind) → IsTrue tells)
+        → (IsTrue tells → IsIn was s → IsIn after (after_answer question given s)) → (IsIn was s → (t : NodeState) × IsIn after t)
+        → (IsTrue (keeps_legal kind) → AreImaged image (volume_in kind) (facts (h ++ earlier)) n after) → IsBehindLock tells image kind (new ++ earlier) n after
+    behind-after tells image longer was after is_in telling goes some imaged = go (keeps_legal kind) refl
+      where
+        later : IsLater h new
+        later = later-adds (word_key (Node n) ∷ ks) h (node_event by n question given) new adds
 
-    pub logged-after : (IsTrue (keeps_legal kind) → after.state ≡ after_answer question given s) → (IsTrue (keeps_legal kind) → IsImaged (volume_in kind) (facts (h ++ earlier)) n after.state after.geometry (image after.disk))
-        → IsTrue (keeps_legal kind) → IsLogged image (volume_in kind) (new ++ earlier) n after
-    logged-after state imaged keeps = record {
-      tied = subst (IsNode (facts (new ++ earlier)) (of_word (Node n) (new ++ earlier))) (sym (state keeps)) (tied-after (node_event by n question given) refl adds.last keeps);
-      imaged = (let later = later-adds (word_key (Node n) ∷ ks) h (node_event by n question given) new adds in
-          subst (λ (g : List Event). IsImaged (volume_in kind) (facts g) n after.state after.geometry (image after.disk)) (sym (later-behind h new earlier later))
-          (longer (volume_in kind) (h ++ earlier) later.0 n after.geometry after.state after.disk (imaged keeps)));
-    }
+        go : (b : Bool) → keeps_legal kind ≡ b → IsBehindLock tells image kind (new ++ earlier) n after
+        go true keeps = record {
+          state = after_answer question given s;
+          is_in = goes (telling keeps) is_in;
+          tied = tied-after;
+          imaged = λ there. (telling there, imaged-later image longer (volume_in kind) earlier h new n after later (imaged there));
+        }
+        go false not = record {
+          state = (some is_in).0;
+          is_in = (some is_in).1;
+          tied = λ there. absurd (cc);
+          imaged = λ there. absurd (cc);
+        }
 
-    pub answered : AnsweredAfter kind earlier n question given (node_event by n question given) ks h new
-    answered = record { adds = adds-fewer (word_key (Node n)) ks h new (node_event by n question given) adds; right = right-at }
-
--- A fuse that was armed leaves the node as the log gives it.
-pub armed-logged : {D : Type 0} (image : D → List ℕ → Type 0) (v : Volume) (earlier h : List Event) (by : Actor) (n : ℕ) (x : Event) (was after : NodeView D) → IsAllowedLater v earlier h by n x was.state → IsLongerLaw image
-    → IsImaged v (facts (h ++ earlier)) n was.state was.geometry (image after.disk) → after.state ≡ was.state → after.geometry ≡ was.geometry → (ks : List ℕ) (new : List Event) → AddsEvent (word_key (Node n) ∷ ks) h (Some x) new
-    → IsOneOf (actor_key by) ks → IsLegalAfter v earlier new → IsLogged image v (new ++ earlier) n after
-armed-logged image v earlier h by n x was after step longer imaged state geometry ks new adds own legal =
+-- A fuse that was armed leaves who stands there as the log gives him.
+pub armed-behind : {D : Type 0} (tells : Bool) (image : D → List ℕ → Type 0) (kind : List ℕ) (earlier h : List Event) (by : Actor) (n : ℕ) (x : Event) (was after : Occupant D) → IsLongerLaw image
+    → (it : IsBehindLock tells image kind (h ++ earlier) n was) → (IsTrue (keeps_legal kind) → IsAllowedLater (volume_in kind) earlier h by n x it.state) → ((s : NodeState) → IsIn was s → IsIn after s)
+    → ((f : Facts) → AreImaged image (volume_in kind) f n was → AreImaged image (volume_in kind) f n after) → (ks : List ℕ) (new : List Event) → AddsEvent (word_key (Node n) ∷ ks) h (Some x) new
+    → IsOneOf (actor_key by) ks → (IsTrue (keeps_legal kind) → IsLegalAfter (volume_in kind) earlier new) → IsBehindLock tells image kind (new ++ earlier) n after
+armed-behind tells image kind earlier h by n x was after longer it step state imaged ks new adds own legal =
     let later = later-adds (word_key (Node n) ∷ ks) h (Some x) new adds in record {
-      tied = subst (IsNode (facts (new ++ earlier)) (of_word (Node n) (new ++ earlier))) (sym state)
-          (subst (λ (g : List Event). IsNode (facts (g ++ earlier)) (of_word (Node n) (g ++ earlier)) was.state) (sym adds.last)
-          (step.tied adds.before adds.later (adds.stays (word_key (Node n)) (inl refl)) (adds.stays (actor_key by) (inr own)) (subst (IsLegalAfter v earlier) adds.last legal)));
-      imaged = subst (λ (s : NodeState). IsImaged v (facts (new ++ earlier)) n s after.geometry (image after.disk)) (sym state)
-          (subst (λ (k : Geometry). IsImaged v (facts (new ++ earlier)) n was.state k (image after.disk)) (sym geometry)
-          (subst (λ (g : List Event). IsImaged v (facts g) n was.state was.geometry (image after.disk)) (sym (later-behind h new earlier later))
-          (longer v (h ++ earlier) later.0 n was.geometry was.state after.disk imaged)));
+      state = it.state;
+      is_in = state it.state it.is_in;
+      tied = λ keeps. subst (λ (g : List Event). IsNode (facts (g ++ earlier)) (of_word (Node n) (g ++ earlier)) it.state) (sym adds.last)
+          ((step keeps).tied adds.before adds.later (adds.stays (word_key (Node n)) (inl refl)) (adds.stays (actor_key by) (inr own)) (subst (IsLegalAfter (volume_in kind) earlier) adds.last (legal keeps)));
+      imaged = λ keeps. ((it.imaged keeps).0, imaged-later image longer (volume_in kind) earlier h new n after later (imaged (facts (h ++ earlier)) (it.imaged keeps).1));
     }
 
 -- The word of a node after an event of it.
@@ -135,17 +158,3 @@ pub word-after : AreWordsKept → (by : Actor) (n : ℕ) (ks : List ℕ) (l h ne
 word-after words by n ks l h new event same adds own =
     ap (of_word (Node n)) adds.last ∙ noted-own n event adds.before (some-part (λ x. word_of x ≡ Node n) (λ x. by_of x ≡ by) event own)
     ∙ ap (noted event) (words (Node n) adds.before h (adds.stays (word_key (Node n)) (inl refl)) ∙ ap (of_word (Node n)) (sym same))
-
--- Without an earlier log.
-
-pub answered-alone : (kind : List ℕ) (earlier : List Event) → earlier ≡ [] → (n : ℕ) (question : NodeAsk) (given : NodeAnswer) (event : Option Event) (ks : List ℕ) (old new : List Event)
-    → AnsweredAfter kind earlier n question given event ks old new → Answered kind n question given event ks old new
-answered-alone kind earlier none n question given event ks old new it = record {
-  adds = it.adds;
-  right = record {
-    state = it.right.state;
-    is = it.right.is;
-    tied = λ honest. subst (λ (h : List Event). IsNode (facts h) (of_word (Node n) h) it.right.state) (alone it.adds.before earlier none) (it.right.tied (honest-keeps kind honest));
-    opening = λ honest. it.right.opening (honest-keeps kind honest);
-  };
-}

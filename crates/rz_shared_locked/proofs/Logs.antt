@@ -1,8 +1,9 @@
 -- Logs that go on from one another.
-use Rattle.std.proofs.Common.{ℕ, List, [], ◌∷◌, ◌++◌, Option, Some, refl, sym, ap, ◌∙◌, append_assoc, inr}
+use Rattle.std.proofs.Common.{ℕ, List, [], ◌∷◌, ◌++◌, Option, Some, None, refl, sym, ap, ◌∙◌, append_assoc, inr}
 use Rattle.rz_events.specs.declared.events.Event.{Event}
 use Rattle.rz_chronicle.specs.Keys.{IsLater}
 use Rattle.rz_chronicle.specs.Holds.{Stays, Commits}
+use Rattle.rz_chronicle.proofs.Histories.{later-self}
 use Rattle.rz_shared_locked.specs.Adding.{AddsEvent}
 
 pub later-trans : (a b c : List Event) → IsLater a b → IsLater b c → IsLater a c
@@ -49,3 +50,7 @@ commits-after ks a b c x later stays it = record {
   stays = stays-trans ks a b it.before stays it.stays;
   last = it.last;
 }
+
+-- no event was added
+abbrev pub none-added : (ks : List ℕ) (h : List Event) → AddsEvent ks h None h
+none-added ks h = record { before = h; later = later-self h; stays = λ k one. refl; last = refl }

@@ -1,5 +1,5 @@
 -- The writes of a log begin with texts of bytes.
-use Rattle.std.proofs.Common.{◌≡◌, ◌<◌, ◌==◌, ℕ, Bool, true, false, cond, List, [], ◌∷◌, Option, Some, None, refl, sym, ◌∙◌, ap, subst, inl}
+use Rattle.std.proofs.Common.{◌≡◌, ◌<◌, ◌==◌, ℕ, Bool, true, false, cond, List, [], ◌∷◌, ◌++◌, Option, Some, None, refl, sym, ◌∙◌, ap, subst, inl}
 use Rattle.std.specs.List.{All}
 use Rattle.rz_events.specs.declared.keys.Actor.{Actor}
 use Rattle.rz_events.specs.declared.keys.Key.{Key}
@@ -53,3 +53,24 @@ by-old (Some c) x s b before now is = before b is
 pub bytes-after : (by : Actor) (q : Call) (given : Reply) (ks : List ℕ) (old new : List Event) → HasBytes q → AreBytes old → Commits (word_key Export ∷ ks) old (event_given by q given) new → AreBytes new
 bytes-after by q given ks old new has bytes it = subst AreBytes (sym it.last)
     (λ s b is. by-old (wrote it.before s) (event_given by q given) s b (bytes-same old it.before (it.stays (word_key Export) (inl refl)) bytes s) (event-bytes by q given has s) is)
+
+-- an earlier log behind it
+
+first-assoc : (a b c : Option Begun) → first_some (first_some a b) c ≡ first_some a (first_some b c)
+first-assoc None b c = refl
+first-assoc (Some x) b c = refl
+
+wrote-behind : (log earlier : List Event) (s : ℕ) → wrote (log ++ earlier) s ≡ first_some (wrote earlier s) (wrote log s)
+wrote-behind [] earlier s = go (wrote earlier s)
+  where
+    go : (o : Option Begun) → o ≡ first_some o None
+    go None = refl
+    go (Some x) = refl
+wrote-behind (x ∷ log) earlier s = ap (λ (o : Option Begun). first_some o (begun_by s x)) (wrote-behind log earlier s) ∙ first-assoc (wrote earlier s) (wrote log s) (begun_by s x)
+
+pub bytes-behind : (log earlier : List Event) → AreBytes log → AreBytes earlier → AreBytes (log ++ earlier)
+bytes-behind log earlier now before s b is = go (wrote earlier s) refl (sym (wrote-behind log earlier s) ∙ is)
+  where
+    go : (o : Option Begun) → wrote earlier s ≡ o → first_some o (wrote log s) ≡ Some b → All (λ x. x < 256) b.text
+    go None none found = now s b found
+    go (Some c) there found = before s b (there ∙ found)

@@ -5,8 +5,10 @@ use Rattle.rz_events.specs.Volume.{Volume}
 use Rattle.rz_events.specs.declared.keys.Actor.{Actor}
 use Rattle.rz_events.specs.declared.nodes.NodeAsk.{NodeAsk}
 use Rattle.rz_events.specs.declared.nodes.NodeAnswer.{NodeAnswer}
+use Rattle.rz_events.specs.declared.nodes.Phase.TheVariants.{Lost}
 use Rattle.rz_events.specs.declared.events.Word.TheVariants.{Export, Node}
 use Rattle.rz_events.specs.declared.export.Call.{Call}
+use Rattle.rz_events.specs.declared.export.Reply.{Reply}
 use Rattle.rz_events.specs.declared.events.Event.{Event}
 use Rattle.rz_events.specs.declared.events.Event.TheVariants as e
 use Rattle.rz_events.specs.Events.{by_of}
@@ -16,20 +18,23 @@ use Rattle.rz_node_model.specs.Afterwards.{after_answer}
 use Rattle.rz_node_model.specs.NodeEvents.{node_event}
 use Rattle.rz_export_model.specs.Export.{Export as State, export_reply, export_after}
 use Rattle.rz_export_model.specs.ExportEvents.{export_event}
-use Rattle.rz_node.specs.View.{NodeView}
+use Rattle.rz_node.specs.View.{lost}
 use Rattle.rz_core.specs.History.{facts, of_word, of_actor}
 use Rattle.rz_core.specs.NodeRows.{cells_of, IsNodeOf}
 use Rattle.rz_core.specs.Legal.{IsLegalAfter, IsAllowedIn}
 use Rattle.rz_core.specs.Tied.{IsNode, IsProperAsk, IsOpening, IsExport, IsProperCall}
+use Rattle.rz_journal.specs.Seen.{calls_after}
+use Rattle.rz_restart_laws.specs.Calls.{changing_calls}
 use Rattle.rz_chronicle.specs.Keys.{IsLater, events_at, word_key, actor_key}
-use Rattle.rz_shared_locked.specs.LockedNodes.{IsLogged, MayAsk, IsTrueRecord}
+use Rattle.rz_shared_locked.specs.LockedNodes.{MayAsk, IsTrueRecord}
 
 -- Nodes.
 
--- A node stays the one that the log gives while its word has no event more.
-abbrev pub IsLockedNodeKept : {D : Type 0} → (D → List ℕ → Type 0) → Volume → Type 0
-IsLockedNodeKept {D = D} image v = (earlier old new : List Event) (n : ℕ) (node : NodeView D) → IsLegalAfter v earlier old → IsLater old new
-    → events_at (word_key (Node n)) new ≡ events_at (word_key (Node n)) old → IsLogged image v (old ++ earlier) n node → IsLogged image v (new ++ earlier) n node
+-- The state that the log gives of a node stays the one that it gives while the node's word has no event more.
+abbrev pub IsLockedNodeKept : Volume → Type 0
+IsLockedNodeKept v = (earlier old new : List Event) (n : ℕ) (s : NodeState) → IsLegalAfter v earlier old → IsLater old new
+    → events_at (word_key (Node n)) new ≡ events_at (word_key (Node n)) old → IsNode (facts (old ++ earlier)) (of_word (Node n) (old ++ earlier)) s
+    → IsNode (facts (new ++ earlier)) (of_word (Node n) (new ++ earlier)) s
 
 -- A call that a caller may make, it may make later too, as long as it does nothing else.
 abbrev pub IsAskerKept : Volume → Type 0
@@ -65,6 +70,11 @@ IsAnswerLaw v = (earlier h : List Event) (by : Actor) (n : ℕ) (question : Node
 abbrev pub IsArmLaw : Volume → Type 0
 IsArmLaw v = (earlier h : List Event) (by : Actor) (n k pick : ℕ) (s : NodeState) → IsLockedNodeAt v earlier h n s → IsAllowedLater v earlier h by n (e.Armed n k pick) s
 
+-- A node that is lost holds nothing, and has no change undecided.
+abbrev pub IsLostLaw : Volume → Type 0
+IsLostLaw v = (earlier h : List Event) (n : ℕ) (s : NodeState) → IsLegalAfter v earlier h → IsNode (facts (h ++ earlier)) (of_word (Node n) (h ++ earlier)) s → s.phase ≡ Lost
+    → IsNode (facts (h ++ earlier)) (of_word (Node n) (h ++ earlier)) (lost s.fence s.losses)
+
 -- The export.
 
 -- It stays the one that the log gives while its word has no event more.
@@ -92,3 +102,14 @@ IsReplyLaw v = (earlier h : List Event) (by : Actor) (question : Call) (s : Stat
     → IsExport v (facts (h ++ earlier)) (of_word Export (h ++ earlier)) s → length (of_word Export (h ++ earlier)) < 2 ^ 64 - 1
     → IsProperCall v (facts (h ++ earlier)) (of_actor by (h ++ earlier)) by question
     → export_event by question (export_reply s question) ≡ Some x → IsLockedExportStep v earlier h by x (export_after s question)
+
+-- The calls that changed the export stay these while its word has no event more.
+abbrev pub AreCallsKept : Volume → Type 0
+AreCallsKept v = (earlier old new : List Event) → IsLegalAfter v earlier old → IsLater old new → events_at (word_key Export) new ≡ events_at (word_key Export) old
+    → changing_calls (new ++ earlier) ≡ changing_calls (old ++ earlier)
+
+-- With the event of a reply its call joins them, where it changed the export.
+abbrev pub AreCallsAdded : Volume → Type 0
+AreCallsAdded v = (earlier old before : List Event) (by : Actor) (question : Call) (given : Reply) (x : Event) → IsLegalAfter v earlier old → IsLegalAfter v earlier before → IsLater old before
+    → events_at (word_key Export) before ≡ events_at (word_key Export) old → IsProperCall v (facts (old ++ earlier)) (of_actor by (old ++ earlier)) by question
+    → export_event by question given ≡ Some x → changing_calls (x ∷ before ++ earlier) ≡ calls_after given question (changing_calls (old ++ earlier))

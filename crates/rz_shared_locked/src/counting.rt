@@ -8,29 +8,49 @@ use rz_chronicle::Naming;
 use rz_events::{Event, Why};
 use std::marker::Brand;
 
-/// The name of a book, with the faults that the disk of each node had counted when the nodes came under
-/// their locks.
+/// The name of a book, with the faults that the disk of each node had counted when it came under its lock;
+/// those of the journal's disk, if the export stands behind a journal; and whether each node has its one disk
+/// all the time.
 pub trait Metering: Naming {
-    ghost use Rattle.std.specs.Prelude.{ℕ};
+    ghost use Rattle.std.specs.Prelude.{ℕ, Bool, Option};
 
     ghost first: { ℕ → ℕ };
+
+    ghost journal: { Option ℕ };
+
+    ghost fixed: { Bool };
 }
 
 impl Metering for Brand {
+    ghost use Rattle.std.specs.Prelude.{true, None};
+
     ghost first = { λ n. 0 };
+
+    ghost journal = { None };
+
+    ghost fixed = { true };
 }
 
-/// The name of a book whose log begins anew.
+/// The name of a book whose log begins anew, over disks that are all here and stay, and whose export is in
+/// memory alone.
 pub trait Counting: Metering {
-    ghost use Rattle.std.specs.Prelude.{◌≡◌, []};
+    ghost use Rattle.std.specs.Prelude.{◌≡◌, [], true, None};
 
     ghost anew: { Self.earlier ≡ [] };
+
+    ghost whole: { Self.fixed ≡ true };
+
+    ghost unkept: { Self.journal ≡ None };
 }
 
 impl Counting for Brand {
     ghost use Rattle.std.specs.Prelude.{refl};
 
     ghost anew = { refl };
+
+    ghost whole = { refl };
+
+    ghost unkept = { refl };
 }
 
 /// So many passes of the disk are spent by an event.

@@ -1,16 +1,13 @@
 //! What lasts while others act, and that the event of an answer may be added.
 ghost use Rattle.rz_events.specs.Volume.{Volume};
-ghost use Rattle.rz_shared_locked.specs.Laws.{IsLockedNodeKept, IsAskerKept, IsReadKept, IsAnswerLaw, IsArmLaw, IsLockedExportKept, IsCallerKept, IsReplyLaw};
+ghost use Rattle.rz_shared_locked.specs.Laws.{IsLockedNodeKept, IsAskerKept, IsReadKept, IsAnswerLaw, IsArmLaw, IsLostLaw, IsLockedExportKept, IsCallerKept, IsReplyLaw, AreCallsKept, AreCallsAdded};
 
-use rz_disk::Disk;
-
-/// A node stays the one that the log gives while its word has no event more.
-pub(crate) fn locked_node_kept<D: Disk>()
-    ensures { (v : Volume) → IsLockedNodeKept D.image v }
+/// The state of a node stays the one that the log gives while its word has no event more.
+pub(crate) fn locked_node_kept()
+    ensures { (v : Volume) → IsLockedNodeKept v }
 {
     rz_core::next_run();
     rz_log_laws::node_kept();
-    rz_node_laws::longer::<D>();
     rz_chronicle::words_kept();
 }
 
@@ -53,6 +50,13 @@ pub(crate) fn arming()
     rz_chronicle::words_kept();
 }
 
+/// A node that is lost after a legal log holds nothing.
+pub(crate) fn lost()
+    ensures { (v : Volume) → IsLostLaw v }
+{
+    rz_core::next_run();
+}
+
 /// The export stays the one that the log gives while its word has no event more.
 pub(crate) fn locked_export_kept()
     ensures { (v : Volume) → IsLockedExportKept v }
@@ -81,4 +85,23 @@ pub(crate) fn replies()
     rz_log_laws::call_kept();
     rz_chronicle::words_kept();
     rz_chronicle::actors_kept();
+}
+
+/// The calls that changed the export stay these while its word has no event more.
+pub(crate) fn calls_kept()
+    ensures { (v : Volume) → AreCallsKept v }
+{
+    rz_core::next_run();
+    rz_restart_laws::untold();
+    rz_chronicle::words_kept();
+}
+
+/// With the event of a reply its call joins them, where it changed the export.
+pub(crate) fn calls_added()
+    ensures { (v : Volume) → AreCallsAdded v }
+{
+    calls_kept();
+    rz_core::next_run();
+    rz_core::permanent();
+    rz_restart_laws::told();
 }

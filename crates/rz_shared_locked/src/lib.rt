@@ -6,22 +6,27 @@
 //! just before its event, whatever other threads did meanwhile. Over any book the faults of a node's word
 //! are those that its disk counted since the node came under its lock.
 //!
-//! A book may go on after an earlier log, which then stands behind the events of this run: the calls whose
-//! names end in `after` are of any such book. The others are of a book whose log begins anew, and say the
-//! same of the events of this run alone.
+//! A book may go on after an earlier log, which then stands behind the events of this run. The disk of a
+//! node may be away; then the node is down, and each call that needs the disk is refused. The export is in
+//! memory alone, or behind a journal, which keeps each call that changes it before that is replied to.
 //!
-//! In reading order: `counting`, `serving`, `adding`, `waiting`, `locked_node`, `locked_export`; `laws` has what lasts
-//! while others act.
+//! In reading order: `counting`, `serving`, `away`, `occupant`, `adding`, `waiting`, `locked_node`,
+//! `swapping`, `locked_export`; `laws` has what lasts while others act.
 #![tactic(auto)]
 
 mod adding;
+mod away;
 mod counting;
 mod laws;
 mod locked_export;
 mod locked_node;
+mod occupant;
 mod serving;
+mod swapping;
 mod waiting;
 
+pub use away::Away;
 pub use counting::{Counting, Metering};
 pub use locked_export::{LockedExport, answer_export};
 pub use locked_node::LockedNode;
+pub use swapping::{Swap, SwapFault};

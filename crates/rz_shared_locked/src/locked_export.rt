@@ -1,5 +1,5 @@
 //! The export under its lock.
-ghost use Rattle.std.specs.Prelude.{◌≡◌, ◌+◌, ◌<◌, ◌^◌, [], ◌∷◌, ◌++◌, IsTrue};
+ghost use Rattle.std.specs.Prelude.{◌≡◌, ◌+◌, ◌<◌, ◌^◌, [], ◌∷◌, ◌++◌, IsTrue, IfOk, OnErr, is_some};
 ghost use Rattle.std.specs.List.{All};
 ghost use Rattle.rz_events.specs.declared.keys.Actor.{Actor as AnActor};
 ghost use Rattle.rz_events.specs.declared.export.Call.{Call as ACall};
@@ -7,67 +7,64 @@ ghost use Rattle.rz_events.specs.declared.events.Word.TheVariants as w;
 ghost use Rattle.rz_events.specs.Borrowed.{call_of};
 ghost use Rattle.rz_events.specs.Events.{word_of, by_of};
 ghost use Rattle.rz_export.specs.Calls.{IsAnswered};
-ghost use Rattle.rz_export_model.specs.Export.{is_proper, new_export};
+ghost use Rattle.rz_export_model.specs.Export.{is_proper};
 ghost use Rattle.rz_export_model.specs.ExportEvents.{export_event};
 ghost use Rattle.rz_core.specs.History.{facts, of_actor, of_word};
 ghost use Rattle.rz_core.specs.Tied.{IsExport, IsProperCall};
+ghost use Rattle.rz_metadata.specs.Stands.{export_in, is_journaled, CountsFaults, IsJournalOpen, Stands};
+ghost use Rattle.rz_restart_laws.specs.Calls.{changing_calls};
 ghost use Rattle.rz_chronicle.specs.Keys.{count_at, word_key, IsLater};
-ghost use Rattle.rz_chronicle.specs.Kinds.{IsFit, IsFitAfter, is_honest, keeps_legal, volume_in};
+ghost use Rattle.rz_chronicle.specs.Kinds.{IsFit, IsFitAfter, keeps_legal, volume_in};
 ghost use Rattle.rz_chronicle.specs.Holds.{Commits, Stays};
 ghost use Rattle.rz_chronicle.specs.Dealing.{new_word_token};
 ghost use Rattle.rz_shared_locked.specs.Adding.{MayBeNext};
-ghost use Rattle.rz_shared_locked.specs.LockedExports.{AreBytes, HasBytes, Replied, RepliedAfter, event_given};
+ghost use Rattle.rz_shared_locked.specs.LockedExports.{AreBytes, AreMetadataFrom, HasBytes, IsUnanswered, Replied, event_given, faults_of};
 
-use crate::counting::{Counting, Metering};
+use crate::counting::Metering;
 use crate::waiting::without_reply;
 use rz_chronicle::{Asks, Book, Pass, WordToken};
+use rz_disk::Disk;
 use rz_events::{Actor, Call, CallRef, Reply};
 use rz_export::Export;
+use rz_metadata::{JournalRefusal, Metadata, NoReply};
 use std::alloc::Global;
 use std::marker::{Brand, Model, PhantomData};
 use std::sync::Wait;
 
 /// Gives an export a call that it takes: the reply of the model, with the model's next state, or that memory
 /// is wanting, and then nothing changes. An export takes memory by the allocator that it was made with.
-pub fn answer_export(alloc: Global, export: &mut Export, call: &Call) -> Reply
+pub fn answer_export(_alloc: Global, export: &mut Export, call: &Call) -> Reply
     requires { IsTrue (is_proper export.old call.now) }
     ensures { IsAnswered export.old call.now result export.new }
 {
-    answer_export_ref(alloc, export, call.borrowed())
+    export.answer_ref(call.borrowed())
 }
 
-/// Gives an export a borrowed call in the same way, so that none of its texts is copied.
-fn answer_export_ref(_alloc: Global, export: &mut Export, call: CallRef<'_>) -> Reply
-    requires { IsTrue (is_proper export.old (call_of call)) }
-    ensures { IsAnswered export.old (call_of call.entry) result export.new }
-{
-    export.answer_ref(call)
-}
-
-/// The export under its lock, with the tally of its word.
+/// The export under its lock, in memory alone or behind a journal, with the token of its word.
 #[derive(Drop)]
-pub struct LockedExport<J: Metering> {
-    alloc: Global,
-    export: Export,
+pub struct LockedExport<D: Disk, J: Metering> {
+    metadata: Metadata<D>,
     word_token: WordToken<J>,
 }
 
-impl<J: Metering> Model for LockedExport<J> {
-    ghost use Rattle.std.specs.Prelude.{◌≡◌, ◌++◌, List, IsTrue};
+impl<D: Disk, J: Metering> Model for LockedExport<D, J> {
+    ghost use Rattle.std.specs.Prelude.{◌≡◌, ◌++◌, List, IsTrue, is_some};
     ghost use Rattle.rz_events.specs.declared.events.Event.{Event as AnEvent};
     ghost use Rattle.rz_events.specs.declared.events.Word.TheVariants as w;
-    ghost use Rattle.rz_core.specs.History.{facts, of_word};
-    ghost use Rattle.rz_core.specs.Tied.{IsExport};
+    ghost use Rattle.rz_metadata.specs.Stands.{export_in, is_journaled, refusal_of, CountsFaults};
     ghost use Rattle.rz_chronicle.specs.Kinds.{keeps_legal, volume_in};
-    ghost use Rattle.rz_shared_locked.specs.LockedExports.{AreBytes};
+    ghost use Rattle.rz_shared_locked.specs.LockedExports.{AreBytes, AreMetadataOf, faults_of};
 
     ghost Value = { List AnEvent };
 
     ghost view = { λ o. o.word_token.log };
 
-    ghost invariant = { λ o. (o.word_token.word ≡ w.Export) × (o.export.volume ≡ volume_in J.kind)
-        × (IsTrue (keeps_legal J.kind) → IsExport (volume_in J.kind) (facts (o.word_token.log ++ J.earlier)) (of_word w.Export (o.word_token.log ++ J.earlier)) o.export)
-        × AreBytes o.word_token.log };
+    ghost invariant = { λ o. (o.word_token.word ≡ w.Export) × ((export_in o.metadata).volume ≡ volume_in J.kind)
+        × (is_journaled o.metadata ≡ is_some J.journal)
+        × AreMetadataOf (refusal_of o.metadata) D.tells D.meter D.image (faults_of J.journal) J.kind (o.word_token.log ++ J.earlier) o.metadata
+        × CountsFaults D.meter (faults_of J.journal) o.metadata
+        × AreBytes o.word_token.log
+        × (IsTrue (keeps_legal J.kind) → AreBytes J.earlier) };
 }
 
 /// An actor and its call, of which a reply is.
@@ -96,49 +93,71 @@ impl<C: Asking> Asks<Reply> for Given<C> {
     ghost event = { λ r. event_given C.by C.call r };
 }
 
-impl<J: Metering> LockedExport<J> {
-    /// The locked export of an export that was opened, or is new. Its word has no event yet in this run. In a
-    /// book that keeps its log legal the export is the one that the earlier log gives.
-    pub fn opened(alloc: Global, export: Export, word_token: WordToken<J>) -> LockedExport<J>
+impl<D: Disk, J: Metering> LockedExport<D, J> {
+    /// The locked export of metadata that were opened, or are new, and refused no call. Its word has no event
+    /// yet in this run. In a book that keeps its log legal the export is the one that the earlier log gives,
+    /// and the journal, if there is one, stands for the calls that changed it.
+    pub fn opened(metadata: Metadata<D>, word_token: WordToken<J>) -> LockedExport<D, J>
         requires word_token { word_token ≡ new_word_token w.Export }
-        requires volume { export.volume ≡ volume_in J.kind }
-        requires tied { IsTrue (keeps_legal J.kind) → IsExport (volume_in J.kind) (facts J.earlier) (of_word w.Export J.earlier) export }
+        requires volume { (export_in metadata).volume ≡ volume_in J.kind }
+        requires journal { is_journaled metadata ≡ is_some J.journal }
+        requires open { IsJournalOpen metadata }
+        requires counted { CountsFaults D.meter (faults_of J.journal) metadata }
+        requires tied { IsTrue (keeps_legal J.kind) → IsExport (volume_in J.kind) (facts J.earlier) (of_word w.Export J.earlier) (export_in metadata) }
+        requires stands { IsTrue (keeps_legal J.kind) → Stands D.tells D.meter D.image (faults_of J.journal) metadata (changing_calls J.earlier) }
+        requires bytes { IsTrue (keeps_legal J.kind) → AreBytes J.earlier }
         ensures { result ≡ [] }
     {
         LockedExport {
-            alloc,
-            export,
+            metadata,
             word_token,
         }
     }
 
-    /// The token of the export's word.
-    pub fn close(self) -> WordToken<J>
-        ensures { result ≡ record { word = w.Export; log = self } }
+    /// The metadata, and the token of the export's word. In each later log that has no further event of it they
+    /// have what the log gives, or they refused a call.
+    pub fn close(self) -> (Metadata<D>, WordToken<J>)
+        ensures word_token { result.1 ≡ record { word = w.Export; log = self } }
+        ensures metadata { AreMetadataFrom D.tells D.meter D.image (faults_of J.journal) J.kind J.earlier self result.0 }
+        ensures counted { CountsFaults D.meter (faults_of J.journal) result.0 }
     {
+        crate::laws::locked_export_kept();
+        crate::laws::calls_kept();
+        rz_chronicle::one_rule();
+        let _fit = self.word_token.room();
         let LockedExport {
-            export,
+            metadata,
             word_token,
-            ..
         } = self;
-        drop(export);
-        word_token
+        (metadata, word_token)
     }
 
-    /// Calls the export, and adds the event of its reply to the log. It does not return where the export
-    /// does not take the call, which it does in a book that keeps its log legal, or where its word cannot move.
-    pub fn call_after<R: Wait>(
+    /// Why the journal did not keep a call, if there is a journal and it did not.
+    pub fn refusal(&self) -> Option<JournalRefusal> {
+        self.metadata.refusal()
+    }
+
+    /// Calls the export, and adds the event of its reply to the log. There is no reply where memory is
+    /// wanting or the journal does not keep the call, and after that none to any call. It does not return
+    /// where the export does not take the call, which it does in a book that keeps its log legal, or where its
+    /// word cannot move.
+    pub fn call<R: Wait>(
         &mut self,
         rt: &R,
         book: &Book<J>,
         pass: &mut Pass<J>,
         call: CallRef<'_>,
-    ) -> Reply
+    ) -> Result<Reply, NoReply>
         requires actor { ¬ (pass.old.actor ≡ Actor.Admin) }
         requires may { IsTrue (keeps_legal J.kind) → IsProperCall (volume_in J.kind) (facts (pass.old.log ++ J.earlier)) (of_actor pass.old.actor (pass.old.log ++ J.earlier)) pass.old.actor (call_of call) }
         ensures same { (pass.new.actor ≡ pass.old.actor) × (pass.new.keys ≡ pass.old.keys) }
-        ensures replied { RepliedAfter J.kind J.earlier (call_of call.entry) result (export_event pass.old.actor (call_of call.entry) result) pass.old.keys pass.old.log pass.new.log }
+        ensures replied { IfOk result (λ r. Replied J.kind J.earlier (call_of call.entry) r (export_event pass.old.actor (call_of call.entry) r) pass.old.keys pass.old.log pass.new.log) }
+        ensures unanswered { OnErr result (IsUnanswered J.kind J.earlier J.journal (call_of call.entry) pass.old.keys pass.old.log pass.new.log) }
+
+        // Each text of the log is one of bytes.
         ensures bytes { AreBytes pass.new.log }
+        ensures texts { IsTrue (keeps_legal J.kind) → AreBytes (pass.new.log ++ J.earlier) }
+
         ensures fit { IsFit J.kind pass.new.log }
     {
         crate::laws::caller_kept();
@@ -160,6 +179,7 @@ impl<J: Metering> LockedExport<J> {
         ensures enters { count_at (word_key w.Export) self.new + 1 < 2 ^ 62 → IsTrue result }
     {
         crate::laws::locked_export_kept();
+        crate::laws::calls_kept();
         rz_chronicle::one_rule();
         let _fit = self.word_token.room();
         book.enter(pass, &mut self.word_token);
@@ -173,62 +193,37 @@ impl<J: Metering> LockedExport<J> {
         book: &Book<J>,
         pass: &mut Pass<J>,
         call: CallRef<'_>,
-    ) -> Reply
+    ) -> Result<Reply, NoReply>
         requires one { self.old ≡ pass.old.log }
         requires room { count_at (word_key w.Export) self.old + 1 < 2 ^ 62 }
         requires may { IsTrue (keeps_legal J.kind) → IsProperCall (volume_in J.kind) (facts (pass.old.log ++ J.earlier)) (of_actor pass.old.actor (pass.old.log ++ J.earlier)) pass.old.actor (call_of call) }
         ensures same { (pass.new.actor ≡ pass.old.actor) × (pass.new.keys ≡ pass.old.keys) }
-        ensures replied { RepliedAfter J.kind J.earlier (call_of call.entry) result (export_event pass.old.actor (call_of call.entry) result) pass.old.keys pass.old.log pass.new.log }
+        ensures replied { IfOk result (λ r. Replied J.kind J.earlier (call_of call.entry) r (export_event pass.old.actor (call_of call.entry) r) pass.old.keys pass.old.log pass.new.log) }
+        ensures unanswered { OnErr result (IsUnanswered J.kind J.earlier J.journal (call_of call.entry) pass.old.keys pass.old.log pass.new.log) }
         ensures bytes { AreBytes pass.new.log }
+        ensures texts { IsTrue (keeps_legal J.kind) → AreBytes (pass.new.log ++ J.earlier) }
         ensures fit { IsFit J.kind pass.new.log }
     {
         crate::laws::locked_export_kept();
         crate::laws::replies();
+        crate::laws::calls_added();
         rz_chronicle::one_rule();
         rz_chronicle::roomy();
         let by = pass.actor();
-        look_into(call);
-        if !self.export.takes_ref(call) {
+        if self.metadata.refusal().is_some() {
+            return Err(NoReply);
+        }
+        if !self.metadata.takes(call) {
             return without_reply(rt);
         }
-        let reply = answer_export_ref(self.alloc, &mut self.export, call);
-        if matches!(reply, Reply::NoMemory) {
-            return reply;
+        look_into(call);
+        match self.metadata.reply(call) {
+            Ok(reply) => {
+                add_reply::<J, Brand>(book, pass, &mut self.word_token, by, call, &reply);
+                Ok(reply)
+            }
+            Err(none) => Err(none),
         }
-        add_reply::<J, Brand>(book, pass, &mut self.word_token, by, call, &reply);
-        reply
-    }
-}
-
-impl<J: Counting> LockedExport<J> {
-    /// The locked export of a new export, whose word has no event yet.
-    pub fn new(alloc: Global, export: Export, word_token: WordToken<J>) -> LockedExport<J>
-        requires word_token { word_token ≡ new_word_token w.Export }
-        requires export { export ≡ new_export (volume_in J.kind) 0 }
-        ensures { result ≡ [] }
-    {
-        rz_log_laws::beginning();
-        LockedExport::opened(alloc, export, word_token)
-    }
-
-    /// Calls the export, and adds the event of its reply to the log. It does not return where the export
-    /// does not take the call, which it does over an honest book, or where its word cannot move.
-    pub fn call<R: Wait>(
-        &mut self,
-        rt: &R,
-        book: &Book<J>,
-        pass: &mut Pass<J>,
-        call: CallRef<'_>,
-    ) -> Reply
-        requires actor { ¬ (pass.old.actor ≡ Actor.Admin) }
-        requires may { IsTrue (is_honest J.kind) → IsProperCall (volume_in J.kind) (facts pass.old.log) (of_actor pass.old.actor pass.old.log) pass.old.actor (call_of call) }
-        ensures same { (pass.new.actor ≡ pass.old.actor) × (pass.new.keys ≡ pass.old.keys) }
-        ensures replied { Replied J.kind (call_of call.entry) result (export_event pass.old.actor (call_of call.entry) result) pass.old.keys pass.old.log pass.new.log }
-        ensures bytes { AreBytes pass.new.log }
-        ensures fit { IsFit J.kind pass.new.log }
-    {
-        let _by = pass.actor();
-        self.call_after(rt, book, pass, call)
     }
 }
 
@@ -247,7 +242,7 @@ fn are_bytes(text: &[u8])
     let _count = text.len();
 }
 
-/// Adds the event of a reply that has one. The pass and the word_token have entered.
+/// AddsEvent the event of a reply that has one. The pass and the word_token have entered.
 fn add_reply<J: Metering, C: Asking>(
     book: &Book<J>,
     pass: &mut Pass<J>,

@@ -1,43 +1,46 @@
 //! A node under its lock.
-ghost use Rattle.std.specs.Prelude.{◌≡◌, ◌+◌, ◌<◌, ◌≤◌, ◌^◌, [], ◌++◌, IsTrue, Some, None, drop};
+ghost use Rattle.std.specs.Prelude.{◌≡◌, ◌+◌, ◌<◌, ◌≤◌, ◌^◌, [], ◌++◌, true, false, IsTrue, IsSome, IfSome, Some, None, drop};
 ghost use Rattle.mj_angles.specs.Layout.{max_bins_of};
+ghost use Rattle.rz_events.specs.declared.nodes.Phase.TheVariants as phases;
 ghost use Rattle.rz_events.specs.declared.events.Word.TheVariants as w;
 ghost use Rattle.rz_events.specs.declared.events.Event.TheVariants as e;
 ghost use Rattle.rz_node_model.specs.NodeEvents as model;
 ghost use Rattle.rz_node.specs.Calls.{Takes, IsUnread};
 ghost use Rattle.rz_core.specs.History.{facts, of_word};
 ghost use Rattle.rz_core.specs.NodeRows.{IsNodeOf};
+ghost use Rattle.rz_core.specs.NodeWord.{last_fence, losses, phase};
 ghost use Rattle.rz_node_laws.specs.Images.{geometry_in};
 ghost use Rattle.rz_chronicle.specs.Keys.{count_at, word_key, IsLater};
-ghost use Rattle.rz_chronicle.specs.Kinds.{IsFit, is_honest, keeps_legal, volume_in};
+ghost use Rattle.rz_chronicle.specs.Kinds.{IsFit, keeps_legal, volume_in};
 ghost use Rattle.rz_chronicle.specs.Holds.{Commits, Stays};
 ghost use Rattle.rz_chronicle.specs.Dealing.{new_word_token};
 ghost use Rattle.rz_shared_locked.specs.Counts.{AreCountedSince};
-ghost use Rattle.rz_shared_locked.specs.LockedNodes.{MayAsk, IsAskerRight, IsLogged, Answered, AnsweredAfter, AreImagesFrom, AreImagesAfter, IsTrueRecord};
+ghost use Rattle.rz_shared_locked.specs.LockedNodes.{MayAsk, IsAskerRight, IsLogged, IsAwayByLog, Answered, AreImagesFrom, IsTrueRecord};
 
 use crate::adding::add;
+use crate::away::Away;
 use crate::counting::{Counting, Metering, left_with};
-use crate::serving::serve;
+use crate::occupant::{Occupant, arm_any, disk_of, serve_any};
 use crate::waiting::{stalled, unanswered};
 use rz_chronicle::{Book, Pass, WordToken};
 use rz_disk::Disk;
-use rz_events::{Actor, Event, NodeAnswer, NodeAsk};
+use rz_events::{Actor, Event, NodeAnswer, NodeAsk, Phase};
 use rz_node::{Node, node_event};
 use std::alloc::Global;
 use std::marker::Model;
 use std::sync::Wait;
 
-/// A node under its lock, with the token of its word.
+/// A node under its lock, on its disk or without it, with the token of its word.
 #[derive(Drop)]
 pub struct LockedNode<D: Disk, J: Metering> {
-    alloc: Global,
-    sid: u16,
-    node: Node<D>,
+    pub(crate) alloc: Global,
+    pub(crate) sid: u16,
+    pub(crate) who: Occupant<D>,
     /// How the next crash of the disk picks.
-    pick: u64,
+    pub(crate) pick: u64,
     /// The passes that the node's events leave its fuse, where it is armed.
-    left: Option<u64>,
-    word_token: WordToken<J>,
+    pub(crate) left: Option<u64>,
+    pub(crate) word_token: WordToken<J>,
 }
 
 impl<D: Disk, J: Metering> Model for LockedNode<D, J> {
@@ -46,22 +49,22 @@ impl<D: Disk, J: Metering> Model for LockedNode<D, J> {
     ghost use Rattle.rz_core.specs.History.{of_word};
     ghost use Rattle.rz_core.specs.NodeRows.{IsNodeOf};
     ghost use Rattle.rz_play.specs.Faults.{fuse_of};
-    ghost use Rattle.rz_chronicle.specs.Kinds.{keeps_legal, volume_in};
+    ghost use Rattle.rz_chronicle.specs.Kinds.{volume_in};
     ghost use Rattle.rz_node_laws.specs.Images.{geometry_in};
-    ghost use Rattle.rz_shared_locked.specs.Counts.{GoesWith};
     ghost use Rattle.rz_shared_locked.specs.Picks.{pick_of};
-    ghost use Rattle.rz_shared_locked.specs.LockedNodes.{LockedNodeView, IsLogged};
+    ghost use Rattle.rz_shared_locked.specs.LockedNodes.{LockedNodeView};
+    ghost use Rattle.rz_shared_locked.specs.Occupants.{CountsHere, IsBehindLock, IsLaidOut};
 
     ghost Value = { LockedNodeView };
 
     ghost view = { λ s. record { node = s.sid; log = s.word_token.log } };
 
     ghost invariant = { λ s. (s.word_token.word ≡ w.Node s.sid) × IsNodeOf (volume_in J.kind) s.sid
-        × (s.node.geometry ≡ geometry_in (volume_in J.kind) s.sid)
-        × (IsTrue (keeps_legal J.kind) → IsTrue D.tells × IsLogged D.image (volume_in J.kind) (s.word_token.log ++ J.earlier) s.sid s.node)
+        × IsLaidOut (geometry_in (volume_in J.kind) s.sid) s.who
+        × IsBehindLock D.tells D.image J.kind (s.word_token.log ++ J.earlier) s.sid s.who
         × IsTrue D.has_fuse
         × (s.left ≡ fuse_of (of_word (w.Node s.sid) s.word_token.log))
-        × GoesWith D.meter (J.first s.sid) (of_word (w.Node s.sid) s.word_token.log) s.node
+        × (IsTrue J.fixed → CountsHere D.meter (J.first s.sid) (of_word (w.Node s.sid) s.word_token.log) s.who)
         × (s.pick ≡ pick_of (of_word (w.Node s.sid) s.word_token.log)) };
 }
 
@@ -87,7 +90,39 @@ impl<D: Disk, J: Metering> LockedNode<D, J> {
         LockedNode {
             alloc,
             sid,
-            node,
+            who: Occupant::Here(node),
+            pick: 0,
+            left: None,
+            word_token,
+        }
+    }
+
+    /// The locked node of one that is down, since its disk is away, in a book over disks that may be away.
+    /// In a book that keeps its log legal it is down after the earlier log, and that log gives its fence and
+    /// how many disks it lost.
+    pub fn away(
+        alloc: Global,
+        sid: u16,
+        fence: u64,
+        losses: u64,
+        word_token: WordToken<J>,
+    ) -> LockedNode<D, J>
+        requires word_token { word_token ≡ new_word_token (w.Node sid) }
+        requires of_volume { IsNodeOf (volume_in J.kind) sid }
+        requires free { J.fixed ≡ false }
+        requires logged { IsTrue (keeps_legal J.kind) → IsTrue D.tells × IsAwayByLog J.earlier sid fence losses }
+        requires fuse { IsTrue D.has_fuse }
+        ensures { result ≡ record { node = sid; log = [] } }
+    {
+        rz_core::states();
+        LockedNode {
+            alloc,
+            sid,
+            who: Occupant::Away(Away {
+                phase: Phase::Down,
+                fence,
+                losses,
+            }),
             pick: 0,
             left: None,
             word_token,
@@ -101,34 +136,33 @@ impl<D: Disk, J: Metering> LockedNode<D, J> {
         self.sid
     }
 
-    /// The disk, and the token of the node's word, of which the disk counted the faults. In a book that
-    /// keeps its log legal each image of the disk is one that the word gives, in each later log too that has no
-    /// further event of it.
-    pub fn close_after(self) -> (D, WordToken<J>)
+    /// The disk, if it is here, and the token of the node's word. In a book that keeps its log legal each
+    /// image of the disk is one that the word gives, in each later log too that has no further event of it.
+    /// Where each node has its one disk all the time, the disk is here, and counted the faults of the word.
+    pub fn close_after(self) -> (Option<D>, WordToken<J>)
         ensures word_token { result.1 ≡ record { word = w.Node self.node; log = self.log } }
         ensures of_volume { IsNodeOf (volume_in J.kind) self.node }
-        ensures images { IsTrue (keeps_legal J.kind) → AreImagesAfter (volume_in J.kind) J.earlier self.log self.node (D.image result.0) }
-        ensures counted { AreCountedSince (J.first self.node) (D.meter result.0).own (of_word (w.Node self.node) self.log) }
+        ensures images { IsTrue (keeps_legal J.kind) → IfSome result.0 (λ d. AreImagesFrom (volume_in J.kind) J.earlier self.log self.node (D.image d)) }
+        ensures counted { IsTrue J.fixed → IfSome result.0 (λ d. AreCountedSince (J.first self.node) (D.meter d).own (of_word (w.Node self.node) self.log)) }
+        ensures here { IsTrue J.fixed → IsSome result.0 }
     {
-        crate::laws::locked_node_kept::<D>();
+        crate::laws::locked_node_kept();
+        rz_node_laws::longer::<D>();
         rz_node_laws::logged::<D>();
         rz_node_laws::counted();
         rz_chronicle::one_rule();
         let _fit = self.word_token.room();
         let LockedNode {
-            alloc: _,
-            sid: _,
-            node,
-            pick: _,
-            left: _,
+            who,
             word_token,
+            ..
         } = self;
-        (node.into_disk(), word_token)
+        (disk_of(who), word_token)
     }
 
     /// Calls the node, and adds the event of its answer to the log. It does not return where this is
     /// another node, or where its word cannot move.
-    pub fn call_after<R: Wait>(
+    pub fn call<R: Wait>(
         &mut self,
         rt: &R,
         book: &Book<J>,
@@ -142,7 +176,7 @@ impl<D: Disk, J: Metering> LockedNode<D, J> {
         requires may { IsTrue (keeps_legal J.kind) → MayAsk (volume_in J.kind) (pass.old.log ++ J.earlier) pass.old.actor node ask.now bins.old }
         ensures locked_node { self.new.node ≡ self.old.node }
         ensures same { (pass.new.actor ≡ pass.old.actor) × (pass.new.keys ≡ pass.old.keys) }
-        ensures answered { AnsweredAfter J.kind J.earlier node ask.now result (model.node_event pass.old.actor node ask.now result) pass.old.keys pass.old.log pass.new.log }
+        ensures answered { Answered J.kind J.earlier node ask.now result (model.node_event pass.old.actor node ask.now result) pass.old.keys pass.old.log pass.new.log }
         ensures read { IsTrue (keeps_legal J.kind) → IsTrueRecord (volume_in J.kind) (facts (pass.new.log ++ J.earlier)) node ask.now result bins.old bins.new }
 
         // The caller's bins are written where a record was read, and not behind the most bins that one has.
@@ -184,7 +218,7 @@ impl<D: Disk, J: Metering> LockedNode<D, J> {
     }
 
     // Lets the pass and the locked node see one log. It answers whether this is the node and its word can move.
-    fn enter(&mut self, book: &Book<J>, pass: &mut Pass<J>, node: u16) -> bool
+    pub(crate) fn enter(&mut self, book: &Book<J>, pass: &mut Pass<J>, node: u16) -> bool
         ensures locked_node { self.new.node ≡ self.old.node }
         ensures same { (pass.new.actor ≡ pass.old.actor) × (pass.new.keys ≡ pass.old.keys) }
         ensures one { self.new.log ≡ pass.new.log }
@@ -194,7 +228,8 @@ impl<D: Disk, J: Metering> LockedNode<D, J> {
         ensures room { IsTrue result → count_at (word_key (w.Node self.new.node)) self.new.log + 1 < 2 ^ 62 }
         ensures enters { self.new.node ≡ node → count_at (word_key (w.Node self.new.node)) self.new.log + 1 < 2 ^ 62 → IsTrue result }
     {
-        crate::laws::locked_node_kept::<D>();
+        crate::laws::locked_node_kept();
+        rz_node_laws::longer::<D>();
         rz_chronicle::words_kept();
         rz_chronicle::one_rule();
         let _fit = self.word_token.room();
@@ -217,13 +252,13 @@ impl<D: Disk, J: Metering> LockedNode<D, J> {
         requires may { IsTrue (keeps_legal J.kind) → MayAsk (volume_in J.kind) (pass.old.log ++ J.earlier) pass.old.actor self.old.node ask.now bins.old }
         ensures locked_node { self.new.node ≡ self.old.node }
         ensures same { (pass.new.actor ≡ pass.old.actor) × (pass.new.keys ≡ pass.old.keys) }
-        ensures answered { AnsweredAfter J.kind J.earlier self.old.node ask.now result (model.node_event pass.old.actor self.old.node ask.now result) pass.old.keys pass.old.log pass.new.log }
+        ensures answered { Answered J.kind J.earlier self.old.node ask.now result (model.node_event pass.old.actor self.old.node ask.now result) pass.old.keys pass.old.log pass.new.log }
         ensures read { IsTrue (keeps_legal J.kind) → IsTrueRecord (volume_in J.kind) (facts (pass.new.log ++ J.earlier)) self.old.node ask.now result bins.old bins.new }
         ensures unread { IsUnread result → bins.new ≡ bins.old }
         ensures rest { drop (max_bins_of (volume_in J.kind).layout) bins.new ≡ drop (max_bins_of (volume_in J.kind).layout) bins.old }
         ensures fit { IsFit J.kind pass.new.log }
     {
-        crate::laws::locked_node_kept::<D>();
+        crate::laws::locked_node_kept();
         crate::laws::read_kept();
         crate::laws::answers();
         rz_node_laws::longer::<D>();
@@ -231,13 +266,13 @@ impl<D: Disk, J: Metering> LockedNode<D, J> {
         rz_chronicle::words_kept();
         rz_chronicle::one_rule();
         rz_chronicle::roomy();
-        let answer = serve(
+        let answer = serve_any(
             self.alloc,
             &self.word_token,
             self.sid,
             self.pick,
             self.left,
-            &mut self.node,
+            &mut self.who,
             ask,
             bins,
         );
@@ -258,14 +293,12 @@ impl<D: Disk, J: Metering> LockedNode<D, J> {
         ensures fit { IsFit J.kind pass.new.log }
     {
         crate::laws::arming();
-        rz_node_laws::fewer::<D>();
         rz_node_laws::longer::<D>();
         rz_chronicle::words_kept();
         rz_chronicle::one_rule();
         rz_chronicle::roomy();
-        rz_node_laws::armed();
         let _by = pass.actor();
-        self.node.arm(Some(passes));
+        arm_any(&self.word_token, self.sid, &mut self.who, passes);
         self.pick = pick;
         self.left = Some(passes);
         let event = Event::Armed {
@@ -278,44 +311,17 @@ impl<D: Disk, J: Metering> LockedNode<D, J> {
 }
 
 impl<D: Disk, J: Counting> LockedNode<D, J> {
-    /// The disk, and the token of the node's word, of which the disk counted the faults. Over an honest book
-    /// each image of the disk is one that the word gives, in each later log too that has no further event of it.
+    /// The disk, and the token of the node's word, of which the disk counted the faults. In a book that
+    /// keeps its log legal each image of the disk is one that the word gives, in each later log too that has no
+    /// further event of it.
     pub fn close(self) -> (D, WordToken<J>)
         ensures word_token { result.1 ≡ record { word = w.Node self.node; log = self.log } }
         ensures of_volume { IsNodeOf (volume_in J.kind) self.node }
-        ensures images { IsTrue (is_honest J.kind) → AreImagesFrom (volume_in J.kind) self.log self.node (D.image result.0) }
+        ensures images { IsTrue (keeps_legal J.kind) → AreImagesFrom (volume_in J.kind) J.earlier self.log self.node (D.image result.0) }
         ensures counted { AreCountedSince (J.first self.node) (D.meter result.0).own (of_word (w.Node self.node) self.log) }
     {
-        let _fit = self.word_token.room();
-        self.close_after()
-    }
-
-    /// Calls the node, and adds the event of its answer to the log. It does not return where this is
-    /// another node, or where its word cannot move.
-    pub fn call<R: Wait>(
-        &mut self,
-        rt: &R,
-        book: &Book<J>,
-        pass: &mut Pass<J>,
-        node: u16,
-        ask: &NodeAsk,
-        bins: &mut [u64],
-    ) -> NodeAnswer
-        requires takes { Takes (volume_in J.kind).layout ask.now bins.old }
-        requires actor { IsAskerRight pass.old.actor ask.now }
-        requires may { IsTrue (is_honest J.kind) → MayAsk (volume_in J.kind) pass.old.log pass.old.actor node ask.now bins.old }
-        ensures locked_node { self.new.node ≡ self.old.node }
-        ensures same { (pass.new.actor ≡ pass.old.actor) × (pass.new.keys ≡ pass.old.keys) }
-        ensures answered { Answered J.kind node ask.now result (model.node_event pass.old.actor node ask.now result) pass.old.keys pass.old.log pass.new.log }
-        ensures read { IsTrue (is_honest J.kind) → IsTrueRecord (volume_in J.kind) (facts pass.new.log) node ask.now result bins.old bins.new }
-
-        // The caller's bins are written where a record was read, and not behind the most bins that one has.
-        ensures unread { IsUnread result → bins.new ≡ bins.old }
-        ensures rest { drop (max_bins_of (volume_in J.kind).layout) bins.new ≡ drop (max_bins_of (volume_in J.kind).layout) bins.old }
-
-        ensures fit { IsFit J.kind pass.new.log }
-    {
-        let _by = pass.actor();
-        self.call_after(rt, book, pass, node, ask, bins)
+        let (disk, word_token) = self.close_after();
+        let Some(disk) = disk else { unreachable!() };
+        (disk, word_token)
     }
 }

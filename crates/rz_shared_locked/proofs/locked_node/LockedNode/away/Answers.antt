@@ -1,0 +1,29 @@
+use Rattle.std.proofs.Common.{◌≡◌, List, [], ◌++◌, sym, ap, subst, true≢false, ◌∙◌}
+use Rattle.rz_events.specs.declared.nodes.Phase.TheVariants.{Down}
+use Rattle.rz_events.specs.declared.events.Word.TheVariants as w
+use Rattle.rz_events.specs.declared.events.Event.{Event}
+use Rattle.rz_core.specs.History.{of_word}
+use Rattle.rz_chronicle.specs.Rules.{WordTokenView}
+use Rattle.rz_play.specs.Faults.{fuse_of}
+use Rattle.rz_shared_locked.specs.declared.occupant.Occupant.TheVariants.{Away}
+use Rattle.rz_shared_locked.specs.Occupants.{IsBehindLock}
+use Rattle.rz_shared_locked.specs.Picks.{pick_of}
+use Rattle.rz_shared_locked.proofs.Occupants.{away-behind}
+use Rattle.rz_shared_locked.proofs.locked_node.LockedNode.away.Goals as goal
+
+pub invariant_of-result : goal.invariant_of-result
+invariant_of-result g c =
+    let kind = g.J.Naming.kind in
+    let earlier = g.J.Naming.earlier in
+    let n = c.args.sid in
+    let empty : c.args.word_token.log ≡ [] = ap (λ (p : WordTokenView). p.log) c.requires.word_token in (
+      ap (λ (p : WordTokenView). p.word) c.requires.word_token,
+      c.requires.of_volume,
+      tt,
+      subst (λ (h : List Event). IsBehindLock g.D.Disk.tells g.D.Disk.image kind (h ++ earlier) n (Away (record { phase = Down; fence = c.args.fence; losses = c.args.losses }))) (sym empty)
+          (away-behind g.D.Disk.tells g.D.Disk.image kind earlier n c.args.fence c.args.losses c.states.ensures c.requires.logged),
+      c.requires.fuse,
+      ap (λ (h : List Event). fuse_of (of_word (w.Node n) h)) (sym empty),
+      λ fixed. true≢false (sym fixed ∙ c.requires.free),
+      ap (λ (h : List Event). pick_of (of_word (w.Node n) h)) (sym empty),
+    )
