@@ -1,52 +1,92 @@
 -- What comes out of a lock.
-use Rattle.std.proofs.Common.{◌≡◌, ℕ, ◌+◌, List, [], ◌∷◌, ◌++◌, length, sym, ◌∙◌, ap, subst, length-append}
-use Rattle.std.specs.Prelude.{IsTrue}
-use Rattle.std.specs.List.{AllZip}
+use Rattle.std.proofs.Common.{◌≡◌, ℕ, ◌+◌, Bool, true, IsTrue, IfSome, IsSome, List, [], ◌∷◌, ◌++◌, map, length, Option, Some, None, refl, sym, ◌∙◌, ap, subst, length-append, append_assoc}
+use Rattle.std.specs.Prelude.{reverse}
+use Rattle.std.specs.Option.{option_map}
+use Rattle.std.specs.List.{AllByRecursion, AllZip}
+use Rattle.std.proofs.lemmas.List.{append-nil, map-append, reverse-append}
 use Rattle.rz_disk.specs.Meter.{Meter, faults}
+use Rattle.rz_disk.specs.UnderFuse.{UnderFuse}
 use Rattle.rz_events.specs.declared.events.Event.{Event}
 use Rattle.rz_events.specs.declared.events.Word.TheVariants.{Node}
-use Rattle.rz_core.specs.History.{facts, of_word}
+use Rattle.rz_core.specs.History.{of_word}
 use Rattle.rz_core.specs.NodeRows.{IsNodeOf}
-use Rattle.rz_node_laws.specs.Images.{AreImages, geometry_in}
 use Rattle.rz_chronicle.specs.Kinds.{keeps_legal, volume_in}
 use Rattle.rz_chronicle.specs.Rules.{WordTokenView}
 use Rattle.rz_shared_locked.specs.Counts.{AreCountedSince}
-use Rattle.rz_shared_locked.specs.LockedNodes.{AreImagesAfter}
-use Rattle.rz_shared_locked.proofs.Behind.{alone, honest-keeps}
-use Rattle.rz_shared.specs.Returned.{IsReturned, IsReturnedAfter}
+use Rattle.rz_shared_locked.specs.LockedNodes.{AreImagesFrom}
+use Rattle.rz_shared.specs.Returned.{IsReturned, IsReturnedIf}
 
--- a disk out of its fuse, and the token of its node's word
-pub returned : {D : Type 0} (meter : D → Meter) (image : D → List ℕ → Type 0) (kind : List ℕ) (earlier : List Event) (first : ℕ → ℕ) (node : ℕ) (log : List Event) (kept disk : D) (word_token : WordTokenView) → word_token ≡ record { word = Node node; log = log } → disk ≡ kept → IsNodeOf (volume_in kind) node
-    → (IsTrue (keeps_legal kind) → AreImagesAfter (volume_in kind) earlier log node (image kept)) → AreCountedSince (first node) (faults (meter kept)) (of_word (Node node) log) → IsReturnedAfter meter image kind earlier first disk word_token
-returned {D = D} meter image kind earlier first node log kept disk word_token is same of_volume images counted = record {
-  node = node;
-  word = ap (λ (p : WordTokenView). p.word) is;
-  of_volume = of_volume;
-  images = λ keeps.
-      subst (λ (l : List Event). AreImagesAfter (volume_in kind) earlier l node (image disk)) (sym (ap (λ (p : WordTokenView). p.log) is))
-      (subst (λ (d : D). AreImagesAfter (volume_in kind) earlier log node (image d)) (sym same) (images keeps));
-  counted = subst (λ (l : List Event). AreCountedSince (first node) (faults (meter disk)) (of_word (Node node) l)) (sym (ap (λ (p : WordTokenView). p.log) is))
-      (subst (λ (d : D). AreCountedSince (first node) (faults (meter d)) (of_word (Node node) log)) (sym same) counted);
-}
+if-mapped : {A B : Type 0} (f : A → B) (P : B → Type 0) (o : Option A) → IfSome o (λ (a : A). P (f a)) → IfSome (option_map f o) P
+if-mapped f P None it = tt
+if-mapped f P (Some a) it = it
+
+some-mapped : {A B : Type 0} (f : A → B) (o : Option A) → IsSome o → IsSome (option_map f o)
+some-mapped f None it = absurd (cc)
+some-mapped f (Some a) it = refl
+
+-- a disk out of its fuse, if it is here, and the token of its node's word
+pub returned : {D : Type 0} (meter : D → Meter) (image : D → List ℕ → Type 0) (fixed : Bool) (kind : List ℕ) (earlier : List Event) (first : ℕ → ℕ) (node : ℕ) (log : List Event) (kept : Option (UnderFuse D)) (disk : Option D) (word_token : WordTokenView)
+    → word_token ≡ record { word = Node node; log = log } → disk ≡ option_map (λ (f : UnderFuse D). f.disk) kept → IsNodeOf (volume_in kind) node
+    → (IsTrue (keeps_legal kind) → IfSome kept (λ (f : UnderFuse D). AreImagesFrom (volume_in kind) earlier log node (image f.disk)))
+    → (IsTrue fixed → IfSome kept (λ (f : UnderFuse D). AreCountedSince (first node) (faults (meter f.disk)) (of_word (Node node) log))) → (IsTrue fixed → IsSome kept)
+    → IsReturnedIf meter image fixed kind earlier first disk word_token
+returned {D = D} meter image fixed kind earlier first node log kept disk word_token is same of_volume images counted here =
+    let logs : word_token.log ≡ log = ap (λ (p : WordTokenView). p.log) is in
+    record {
+      node = node;
+      word = ap (λ (p : WordTokenView). p.word) is;
+      of_volume = of_volume;
+      images = λ keeps.
+          subst (λ (l : List Event). IfSome disk (λ (d : D). AreImagesFrom (volume_in kind) earlier l node (image d))) (sym logs)
+          (subst (λ (o : Option D). IfSome o (λ (d : D). AreImagesFrom (volume_in kind) earlier log node (image d))) (sym same)
+          (if-mapped (λ (f : UnderFuse D). f.disk) (λ (d : D). AreImagesFrom (volume_in kind) earlier log node (image d)) kept (images keeps)));
+      counted = λ all.
+          subst (λ (l : List Event). IfSome disk (λ (d : D). AreCountedSince (first node) (faults (meter d)) (of_word (Node node) l))) (sym logs)
+          (subst (λ (o : Option D). IfSome o (λ (d : D). AreCountedSince (first node) (faults (meter d)) (of_word (Node node) log))) (sym same)
+          (if-mapped (λ (f : UnderFuse D). f.disk) (λ (d : D). AreCountedSince (first node) (faults (meter d)) (of_word (Node node) log)) kept (counted all)));
+      here = λ all. subst (λ (o : Option D). IsSome o) (sym same) (some-mapped (λ (f : UnderFuse D). f.disk) kept (here all));
+    }
 
 pub one-longer : {A : Type 0} (xs ys : List A) (x : A) → ys ≡ xs ++ x ∷ [] → length ys ≡ length xs + 1
 one-longer xs ys x is = ap length is ∙ length-append xs (x ∷ [])
 
--- without an earlier log
-one-alone : {D : Type 0} (meter : D → Meter) (image : D → List ℕ → Type 0) (kind : List ℕ) (earlier : List Event) (first : ℕ → ℕ) → earlier ≡ [] → (disk : D) (word_token : WordTokenView)
-    → IsReturnedAfter meter image kind earlier first disk word_token → IsReturned meter image kind first disk word_token
-one-alone meter image kind earlier first none disk word_token it = record {
-  node = it.node;
-  word = it.word;
-  of_volume = it.of_volume;
-  images = λ honest new later same.
-      subst (λ (l : List Event). AreImages (volume_in kind) (facts l) (of_word (Node it.node) l) it.node (geometry_in (volume_in kind) it.node) (image disk)) (alone new earlier none) (it.images (honest-keeps kind honest) new later same);
-  counted = it.counted;
-}
+-- Disks that are all here.
 
-pub returned-alone : {D : Type 0} (meter : D → Meter) (image : D → List ℕ → Type 0) (kind : List ℕ) (earlier : List Event) (first : ℕ → ℕ) → earlier ≡ [] → (disks : List D) (word_tokens : List WordTokenView)
-    → AllZip (IsReturnedAfter meter image kind earlier first) disks word_tokens → AllZip (IsReturned meter image kind first) disks word_tokens
-returned-alone meter image kind earlier first none [] [] all = tt
-returned-alone meter image kind earlier first none [] (p ∷ ps) all = absurd all
-returned-alone meter image kind earlier first none (d ∷ ds) [] all = absurd all
-returned-alone meter image kind earlier first none (d ∷ ds) (p ∷ ps) all = (one-alone meter image kind earlier first none d p all.0, returned-alone meter image kind earlier first none ds ps all.1)
+module _ {D : Type 0} (meter : D → Meter) (image : D → List ℕ → Type 0) (fixed : Bool) (kind : List ℕ) (earlier : List Event) (first : ℕ → ℕ) (all : IsTrue fixed) where
+  pub each-here : (disks : List (Option D)) (word_tokens : List WordTokenView) → AllZip (IsReturnedIf meter image fixed kind earlier first) disks word_tokens → AllByRecursion (λ (o : Option D). IsSome o) disks
+  each-here [] [] zip = tt
+  each-here [] (p ∷ ps) zip = tt
+  each-here (d ∷ ds) [] zip = absurd zip
+  each-here (d ∷ ds) (p ∷ ps) zip = (zip.0.here all, each-here ds ps zip.1)
+
+  pub unwrapped : (disks : List D) (word_tokens : List WordTokenView) → AllZip (IsReturnedIf meter image fixed kind earlier first) (map (λ (d : D). Some d) disks) word_tokens → AllZip (IsReturned meter image kind earlier first) disks word_tokens
+  unwrapped [] [] zip = tt
+  unwrapped [] (p ∷ ps) zip = absurd zip
+  unwrapped (d ∷ ds) [] zip = absurd zip
+  unwrapped (d ∷ ds) (p ∷ ps) zip = (
+    record { node = zip.0.node; word = zip.0.word; of_volume = zip.0.of_volume; images = zip.0.images; counted = zip.0.counted all },
+    unwrapped ds ps zip.1,
+  )
+
+-- The disks that are out beside those that wait, the last one first.
+
+pub none-out : {D : Type 0} (home : List D) (disks disks' : List (Option D)) → length home ≡ 0 → disks' ≡ reverse disks → map (λ (d : D). Some d) home ++ reverse disks' ≡ reverse (reverse disks)
+none-out [] disks disks' none turned = ap reverse turned
+none-out (d ∷ home) disks disks' none turned = absurd (cc)
+
+pub last-at : {A : Type 0} (P : A → Type 0) (xs ys : List A) (x : A) → AllByRecursion P (xs ++ x ∷ ys) → P x
+last-at P [] ys x all = all.0
+last-at P (a ∷ xs) ys x all = last-at P xs ys x all.1
+
+pub back-turned : {A : Type 0} (disks disks' : List A) (x : A) → disks ≡ disks' ++ x ∷ [] → reverse disks ≡ x ∷ reverse disks'
+back-turned disks disks' x is = ap reverse is ∙ reverse-append disks' (x ∷ [])
+
+pub one-out : {D : Type 0} (home : List D) (d : D) (disks disks' whole : List (Option D)) → disks ≡ disks' ++ Some d ∷ [] → map (λ (d : D). Some d) home ++ reverse disks ≡ whole → map (λ (d : D). Some d) (home ++ d ∷ []) ++ reverse disks' ≡ whole
+one-out {D = D} home d disks disks' whole is was =
+    let some : D → Option D = λ (x : D). Some x in
+    ap (λ (l : List (Option D)). l ++ reverse disks') (map-append some home (d ∷ [])) ∙ append_assoc (map some home) (Some d ∷ []) (reverse disks')
+    ∙ sym (ap (λ (l : List (Option D)). map some home ++ l) (back-turned disks disks' (Some d) is)) ∙ was
+
+pub all-out : {D : Type 0} (home : List D) (disks whole : List (Option D)) → length disks ≡ 0 → map (λ (d : D). Some d) home ++ reverse disks ≡ whole → map (λ (d : D). Some d) home ≡ whole
+all-out home [] whole none was = sym (append-nil (map (λ d. Some d) home)) ∙ was
+all-out home (o ∷ disks) whole none was = absurd (cc)

@@ -10,7 +10,10 @@ use Rattle.rz_chronicle.specs.Rules.{WordTokenView}
 use Rattle.rz_chronicle.specs.Dealing.{new_word_token}
 use Rattle.rz_nodes.specs.declared.formatting.Server.{Server}
 use Rattle.rz_node_laws.specs.Images.{geometry_in}
-use Rattle.rz_shared_locked.specs.LockedNodes.{IsLogged}
+use Rattle.rz_shared_locked.specs.LockedNodes.{IsLogged, IsAwayByLog}
+use Rattle.rz_shared.specs.declared.seating.AwayNode.{AwayNode}
+use Rattle.rz_shared.specs.declared.seating.Arrived.{Arrived}
+use Rattle.rz_shared.specs.declared.seating.Arrived.TheVariants.{Here, Away}
 
 -- what a disk holds, taken out of its fuse
 abbrev pub unfused : {D : Type 0} → (D → List ℕ → Type 0) → UnderFuse D → List ℕ → Type 0
@@ -26,3 +29,15 @@ pub record IsNodeReady {D : Type 0} (tells : Bool) (meter : D → Meter) (image 
   pub logged : IsTrue (keeps_legal kind) → IsTrue tells × IsLogged (unfused image) (volume_in kind) earlier s.sid s.node
   pub unarmed : s.node.disk.fuse ≡ None
   pub count : first s.sid ≤ faults (meter s.node.disk.disk)
+
+-- A node of the volume whose disk is away, and the token of its word, which has no event in this run. In a book that keeps its log
+-- legal it is down after the earlier log, which gives its fence and how many disks it lost.
+pub record IsAwayReady (tells : Bool) (kind : List ℕ) (earlier : List Event) (a : AwayNode) (word_token : WordTokenView) : Type 0 where
+  pub word_token_is : word_token ≡ new_word_token (Node a.sid)
+  pub of_volume : IsNodeOf (volume_in kind) a.sid
+  pub logged : IsTrue (keeps_legal kind) → IsTrue tells × IsAwayByLog earlier a.sid a.fence a.losses
+
+-- either of them
+abbrev pub IsArrivedReady : {D : Type 0} → Bool → (D → Meter) → (D → List ℕ → Type 0) → List ℕ → List Event → (ℕ → ℕ) → Arrived D → WordTokenView → Type 0
+IsArrivedReady tells meter image kind earlier first (Here s) word_token = IsNodeReady tells meter image kind earlier first s word_token
+IsArrivedReady tells meter image kind earlier first (Away a) word_token = IsAwayReady tells kind earlier a word_token

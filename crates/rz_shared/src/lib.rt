@@ -6,10 +6,9 @@
 //! honest book all calls stand in one legal log, and each answer is right for that log just before its
 //! event. Which book a cluster belongs to is its type parameter.
 //!
-//! A cluster is new, and its log begins anew; or its nodes and its export were opened, and its log goes on
-//! after an earlier one, which stands behind the events of this run. The calls whose names end in `after`
-//! are of any such cluster. The others are of one whose log begins anew, and say the same of the events of
-//! this run alone.
+//! A cluster is new, and its log begins anew; or its nodes and its metadata were opened, and its log goes
+//! on after an earlier one, which stands behind the events of this run. Then disks of nodes may be away, and
+//! a node may get a new disk in the place of its own; and the export may stand behind a journal.
 //!
 //! No contract says which node stands behind which lock: a call of a lock that has another node than the
 //! one that was asked waits for ever. At the end each disk comes back beside the token of its own node, in
@@ -26,8 +25,12 @@ mod resuming;
 mod room;
 mod seating;
 
+pub use closing::Closed;
 pub use cluster::Cluster;
 pub use resuming::OpenedParts;
 pub use rz_node::answer_node;
 pub use rz_nodes::DriverFault;
-pub use rz_shared_locked::{Counting, LockedExport, LockedNode, Metering, answer_export};
+pub use rz_shared_locked::{
+    Counting, LockedExport, LockedNode, Metering, Swap, SwapFault, answer_export,
+};
+pub use seating::{Arrived, AwayNode};

@@ -1,11 +1,12 @@
 //! A new cluster: each disk is formatted for its node.
-ghost use Rattle.std.specs.Prelude.{◌≡◌, ◌≤◌, IfOk, IfErr, IsTrue, length, map};
+ghost use Rattle.std.specs.Prelude.{◌≡◌, ◌≤◌, ℕ, false, [], IfOk, IfErr, IsTrue, length, map};
 ghost use Rattle.std.specs.Vec.{vec_len, vec_capacity};
 ghost use Rattle.rz_disk.specs.Meter.{faults};
 ghost use Rattle.rz_events.specs.declared.events.Word.TheVariants as w;
 ghost use Rattle.std.specs.List.{AllByRecursion};
 ghost use Rattle.rz_events.specs.Volume.{IsVolume, IsNode, nodes_of};
 ghost use Rattle.rz_export_model.specs.Export.{new_export};
+ghost use Rattle.rz_metadata.specs.Stands.{export_in, is_journaled, CountsFaults, IsJournalOpen, Stands};
 ghost use Rattle.rz_chronicle.specs.Dealing.{new_word_token};
 ghost use Rattle.rz_chronicle.specs.Keys.{sids_of};
 ghost use Rattle.rz_chronicle.specs.Kinds.{is_honest, volume_in};
@@ -20,20 +21,21 @@ use rz_chronicle::{Book, Desk};
 use rz_config::Volume;
 use rz_disk::{Disk, Fused};
 use rz_events::NodeSpec;
-use rz_export::Export;
+use rz_metadata::Metadata;
 use rz_nodes::{DriverFault, all_nodes, format_all};
 use std::alloc::{AllocError, Global};
 use std::sync::Mutex;
 
-/// The layout of a volume, its nodes in order, an export of it, and room for the locks and for what they
-/// hold.
+/// The layout of a volume, its nodes in order, metadata of it in memory, and room for the locks and for what
+/// they hold.
 #[derive(Drop)]
 struct ClusterParts<D: Disk, J: Metering> {
     layout: Layout,
     nodes: Vec<NodeSpec>,
-    export: Export,
+    metadata: Metadata<D>,
     locked_nodes: Vec<Mutex<LockedNode<Fused<D>, J>>>,
     unlocked: Vec<LockedNode<Fused<D>, J>>,
+    disks: Vec<Option<D>>,
 }
 
 /// What a new cluster has beside its disks.
@@ -43,9 +45,14 @@ fn new_parts<D: Disk, J: Metering>(
 ) -> Result<ClusterParts<D, J>, AllocError>
     ensures layout { IfOk result (λ p. p.layout ≡ volume.layout) }
     ensures nodes { IfOk result (λ p. p.nodes.items ≡ nodes_of volume.clusters) }
-    ensures export { IfOk result (λ p. p.export ≡ new_export volume 0) }
+    ensures export { IfOk result (λ p. export_in p.metadata ≡ new_export volume 0) }
+    ensures stands { IfOk result (λ p. (first : ℕ) → Stands D.tells D.meter D.image first p.metadata []) }
+    ensures counted { IfOk result (λ p. (first : ℕ) → CountsFaults D.meter first p.metadata) }
+    ensures journal { IfOk result (λ p. is_journaled p.metadata ≡ false) }
+    ensures open { IfOk result (λ p. IsJournalOpen p.metadata) }
     ensures room { IfOk result (λ p. (vec_len p.locked_nodes ≡ 0) × (vec_len p.nodes ≤ vec_capacity p.locked_nodes)) }
     ensures unlocked { IfOk result (λ p. (vec_len p.unlocked ≡ 0) × (vec_len p.nodes ≤ vec_capacity p.unlocked)) }
+    ensures disks { IfOk result (λ p. (vec_len p.disks ≡ 0) × (vec_len p.nodes ≤ vec_capacity p.disks)) }
     ensures rules { IsVolume volume }
     ensures proper { AllByRecursion IsNode (nodes_of volume.clusters) }
 {
@@ -54,21 +61,29 @@ fn new_parts<D: Disk, J: Metering>(
         drop(volume);
         return Err(AllocError);
     };
-    let Ok(export) = Export::new(alloc, volume, 0) else {
+    let Ok(metadata) = Metadata::in_memory(alloc, volume) else {
         drop(nodes);
         return Err(AllocError);
     };
     let Ok((locked_nodes, unlocked)) = empty_rows(alloc, nodes.len()) else {
         drop(nodes);
-        drop(export);
+        drop(metadata);
+        return Err(AllocError);
+    };
+    let Ok(disks) = Vec::with_capacity(alloc, nodes.len()) else {
+        drop(nodes);
+        drop(metadata);
+        drop(locked_nodes);
+        drop(unlocked);
         return Err(AllocError);
     };
     Ok(ClusterParts {
         layout,
         nodes,
-        export,
+        metadata,
         locked_nodes,
         unlocked,
+        disks,
     })
 }
 
@@ -132,11 +147,13 @@ impl<D: Disk, J: Counting> Cluster<D, J> {
                     nodes,
                     parts.locked_nodes,
                 );
+                let room = ClosingRoom::of(parts.unlocked, parts.disks, home, word_tokens);
                 Ok(Cluster {
+                    layout: parts.layout,
                     nodes: parts.nodes,
                     locked_nodes,
-                    locked_export: Mutex::new(LockedExport::new(alloc, parts.export, export)),
-                    room: Mutex::new(ClosingRoom::of(parts.unlocked, home, word_tokens)),
+                    locked_export: Mutex::new(LockedExport::opened(parts.metadata, export)),
+                    room: Mutex::new(room),
                 })
             }
             Err(back) => {

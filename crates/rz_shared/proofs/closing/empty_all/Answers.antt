@@ -1,6 +1,6 @@
 use Rattle.std.proofs.Common.{◌≡◌, length, ap, arith, vec_len}
 use Rattle.rz_nodes.proofs.Rowwise.{zip-more}
-use Rattle.rz_shared.specs.Returned.{IsReturnedAfter}
+use Rattle.rz_shared.specs.Returned.{IsReturnedIf}
 use Rattle.rz_chronicle.specs.Rules.{WordTokenView}
 use Rattle.rz_shared.proofs.Ordered.{words-at, first-words, word-next, last-words, none-zip}
 use Rattle.rz_shared.proofs.Returning.{returned}
@@ -13,7 +13,7 @@ loop-locked_node-init g c =
     let word_tokens : vec_len c.args.word_tokens ≡ length c.args.word_tokens.items = c.args.word_tokens.ok.0 in
     let count = c.reverse.ensures.len in
     record {
-      returned = none-zip (IsReturnedAfter g.D.Disk.meter g.D.Disk.image g.J.Naming.kind g.J.Naming.earlier g.J.Metering.first) c.args.disks.items c.args.word_tokens.items (omega (arith, no_disk, disks)) (omega (arith, no_word_token, word_tokens));
+      returned = none-zip (IsReturnedIf g.D.Disk.meter g.D.Disk.image g.J.Metering.fixed g.J.Naming.kind g.J.Naming.earlier g.J.Metering.first) c.args.disks.items c.args.word_tokens.items (omega (arith, no_disk, disks)) (omega (arith, no_word_token, word_tokens));
       words = first-words c.args.word_tokens.items c.args.locked_nodes.items c.reverse.new.self.items (omega (arith, no_word_token, word_tokens)) c.reverse.ensures.items;
       count = omega (arith, no_disk, count);
       same = omega (arith, no_disk, no_word_token);
@@ -39,13 +39,14 @@ loop-locked_node-preserved g c =
     let popped = c.in-Some.ensures.cases in
     let locked_node = c.in-Some.locked_node in
     let count = inv.count in let same = inv.same in let disks = inv.disks in let word_tokens = inv.word_tokens in
-    let disk = c.into_inner.result in let word_token = c.close_after-disk.result.1 in
+    let disk = c.unfused.result in let word_token = c.close_after-disk.result.1 in
     let disk_more = c.push_reserved.ensures.len in let word_token_more = c.push_reserved-in-Some.ensures.len in
     let disk_room = c.push_reserved.ensures.capacity in let word_token_room = c.push_reserved-in-Some.ensures.capacity in
-    let it = returned g.D.Disk.meter g.D.Disk.image g.J.Naming.kind g.J.Naming.earlier g.J.Metering.first locked_node.node locked_node.log _ disk word_token c.close_after-disk.ensures.word_token c.into_inner.ensures c.close_after-disk.ensures.of_volume c.close_after-disk.ensures.images c.close_after-disk.ensures.counted in
+    let it = returned g.D.Disk.meter g.D.Disk.image g.J.Metering.fixed g.J.Naming.kind g.J.Naming.earlier g.J.Metering.first locked_node.node locked_node.log c.close_after-disk.result.0 disk word_token c.close_after-disk.ensures.word_token c.unfused.ensures
+    c.close_after-disk.ensures.of_volume c.close_after-disk.ensures.images c.close_after-disk.ensures.counted c.close_after-disk.ensures.here in
     let word = word-next c.loop-locked_node.word_tokens.items word_token c.loop-locked_node.locked_nodes.items c.pop.new.self.items locked_node (words-at c.args.locked_nodes.items) c.in-Some.ensures.items (ap (λ (p : WordTokenView). p.word) c.close_after-disk.ensures.word_token) inv.words in
     record {
-      returned = rw (c.push_reserved.ensures.items, c.push_reserved-in-Some.ensures.items) (zip-more (IsReturnedAfter g.D.Disk.meter g.D.Disk.image g.J.Naming.kind g.J.Naming.earlier g.J.Metering.first) c.loop-locked_node.disks.items c.loop-locked_node.word_tokens.items disk word_token inv.returned it);
+      returned = rw (c.push_reserved.ensures.items, c.push_reserved-in-Some.ensures.items) (zip-more (IsReturnedIf g.D.Disk.meter g.D.Disk.image g.J.Metering.fixed g.J.Naming.kind g.J.Naming.earlier g.J.Metering.first) c.loop-locked_node.disks.items c.loop-locked_node.word_tokens.items disk word_token inv.returned it);
       words = rw c.push_reserved-in-Some.ensures.items word;
       count = omega (arith, count, popped, disk_more);
       same = omega (arith, same, disk_more, word_token_more);

@@ -1,10 +1,8 @@
 use Rattle.std.proofs.Common.{◌≡◌, length, sym, ◌∙◌, ap, subst, arith, vec_len}
-use Rattle.std.specs.Prelude.{nat_eq}
-use Rattle.std.specs.List.{AllByRecursion, IsDistinct}
+use Rattle.std.specs.List.{AllByRecursion}
 use Rattle.std.proofs.lemmas.List.{length-map}
-use Rattle.rz_events.specs.Volume.{Volume, IsNode, nodes_of}
+use Rattle.rz_events.specs.Volume.{Volume, IsNode, IsVolume, nodes_of}
 use Rattle.rz_events.specs.declared.files.NodeSpec.{NodeSpec}
-use Rattle.rz_chronicle.specs.Keys.{sids_of}
 use Rattle.rz_chronicle.specs.Kinds.{volume_in}
 use Rattle.rz_shared_locked.proofs.Behind.{keeps-honest}
 use Rattle.rz_shared.proofs.NewLockedNodes.{untouched, all-ready, made-length}
@@ -43,6 +41,14 @@ of-requires-clause-locked_nodes g c =
 
 pub of-requires-clause-disks : goal.of-requires-clause-disks
 of-requires-clause-disks g c =
+    let all = ap length c.in-Ok.ensures.nodes in
+    let volume = ap (λ (v : Volume). length (nodes_of v.clusters)) c.requires.volume in
+    let parts : vec_len c.in-Ok.parts.nodes ≡ length c.in-Ok.parts.nodes.items = c.in-Ok.parts.nodes.ok.0 in
+    let room = c.in-Ok.ensures.disks.1 in
+    (c.in-Ok.ensures.disks.0, omega (arith, all, volume, parts, room))
+
+pub of-requires-clause-home : goal.of-requires-clause-home
+of-requires-clause-home g c =
     let same = made-length g.D.Disk.tells g.D.Disk.meter g.D.Disk.image g.D.Disk.text c.in-Ok.parts.layout c.as_slice.result.now c.args.disks.items c.in-Ok-format_all.servers.items
     (c.requires.count ∙ ap length (sym (c.as_slice.ensures.value ∙ c.in-Ok.ensures.nodes))) c.in-Ok-format_all.ensures.made in
     let nodes = ap length c.as_slice.ensures.value in
@@ -50,7 +56,7 @@ of-requires-clause-disks g c =
     let volume = ap (λ (v : Volume). length (nodes_of v.clusters)) c.requires.volume in
     let servers : vec_len c.in-Ok-format_all.servers ≡ length c.in-Ok-format_all.servers.items = c.in-Ok-format_all.servers.ok.0 in
     let home = c.in-Ok-format_all.ensures.room in
-    (c.in-Ok-format_all.ensures.empty, omega (arith, same, nodes, all, volume, servers, home))
+    (c.in-Ok-format_all.ensures.empty, λ fixed. omega (arith, same, nodes, all, volume, servers, home))
 
 pub of-requires-clause-word_tokens : goal.of-requires-clause-word_tokens
 of-requires-clause-word_tokens g c =
@@ -74,5 +80,7 @@ invariant_of-result g c =
       c.in-Ok.ensures.nodes ∙ ap (λ (v : Volume). nodes_of v.clusters) c.requires.volume,
       omega (arith, count, same, nodes, servers, parts),
       omega (arith, count, same, nodes, all, servers, volume),
-      subst (λ (v : Volume). IsDistinct nat_eq (sids_of v)) c.requires.volume c.new_parts.ensures.rules.distinct_sids,
+      subst IsVolume c.requires.volume c.new_parts.ensures.rules,
+      subst (λ (v : Volume). AllByRecursion IsNode (nodes_of v.clusters)) c.requires.volume c.new_parts.ensures.proper,
+      c.in-Ok.ensures.layout ∙ ap (λ (v : Volume). v.layout) c.requires.volume,
     )

@@ -7,11 +7,11 @@ use Rattle.rz_events.specs.declared.events.Word.TheVariants as w
 use Rattle.rz_chronicle.specs.Keys.{sids_of}
 use Rattle.rz_shared.specs.Arranged.{sids}
 use Rattle.rz_shared.proofs.Ordered.{in-order}
-use Rattle.rz_shared.proofs.cluster.Cluster.close_after.Goals as goal
+use Rattle.rz_shared.proofs.cluster.Cluster.taken_apart.Goals as goal
 
 pub arrange-all-requires-clause-apart : goal.arrange-all-requires-clause-apart
 arrange-all-requires-clause-apart g c =
-    subst (λ (ns : List NodeSpec). IsDistinct nat_eq (sids ns)) (sym (c.as_slice.ensures.value ∙ c.self.invariant.0)) c.self.invariant.3
+    subst (λ (ns : List NodeSpec). IsDistinct nat_eq (sids ns)) (sym (c.as_slice.ensures.value ∙ c.self.invariant.0)) c.self.invariant.3.distinct_sids
 
 pub returns-clause-order : goal.returns-clause-order
 returns-clause-order g c = λ apart.
@@ -21,6 +21,6 @@ returns-clause-order g c = λ apart.
     let locked_nodes : vec_len c.arrange-all.new.locked_nodes ≡ length c.arrange-all.new.locked_nodes.items = c.arrange-all.new.locked_nodes.ok.0 in
     let specs : vec_len c.self.inside.nodes ≡ length c.self.inside.nodes.items = c.self.inside.nodes.ok.0 in
     let locks = c.self.invariant.1 in
-    in-order g.D.Disk.meter g.D.Disk.image g.J.Naming.kind g.J.Naming.earlier g.J.Metering.first c.as_slice.result.now c.empty_all-disks.result.0.items c.empty_all-disks.result.1.items c.arrange-all.new.locked_nodes.items c.arrange-all.result (c.as_slice.ensures.value ∙ c.self.invariant.0)
+    in-order g.D.Disk.meter g.D.Disk.image g.J.Metering.fixed g.J.Naming.kind g.J.Naming.earlier g.J.Metering.first c.as_slice.result.now c.empty_all-disks.result.0.items c.empty_all-disks.result.1.items c.arrange-all.new.locked_nodes.items c.arrange-all.result (c.as_slice.ensures.value ∙ c.self.invariant.0)
     c.arrange-all.ensures.placed c.arrange-all.ensures.missing (omega (arith, nodes, count, all, locked_nodes, specs, locks)) c.empty_all-disks.ensures.words c.empty_all-disks.ensures.returned apart
     ∙ ap (λ (v : Volume). map w.Node (sids_of v)) c.self.view_is
