@@ -55,11 +55,21 @@ impl<K: Named> Naming for NewName<K> {
 }
 
 impl<K: Named> Metering for NewName<K> {
+    ghost use Rattle.std.specs.Prelude.{true, None};
+
     ghost first = { K.first };
+
+    ghost journal = { None };
+
+    ghost fixed = { true };
 }
 
 impl<K: Named> Counting for NewName<K> {
     ghost use Rattle.std.specs.Prelude.{refl};
 
     ghost anew = { refl };
+
+    ghost unkept = { refl };
+
+    ghost whole = { refl };
 }

@@ -8,17 +8,20 @@ use Rattle.rz_events.specs.declared.nodes.NodeAsk.TheVariants as ask
 use Rattle.rz_events.specs.declared.nodes.NodeAnswer.{NodeAnswer}
 use Rattle.rz_events.specs.declared.nodes.NodeAnswer.TheVariants as answer
 use Rattle.rz_events.specs.declared.nodes.StartAnswer.TheVariants as start
+use Rattle.rz_events.specs.declared.events.Word.TheVariants.{Node}
 use Rattle.rz_events.specs.declared.events.Event.{Event}
 use Rattle.rz_events.specs.declared.events.Event.TheVariants as e
 use Rattle.rz_node_model.specs.NodeEvents.{node_event}
-use Rattle.rz_core.specs.History.{of_actor}
+use Rattle.rz_core.specs.History.{facts, of_actor, of_word}
+use Rattle.rz_core.specs.Tied.{IsNode}
 use Rattle.rz_script.specs.declared.line.Line.{Line}
 use Rattle.rz_script.specs.declared.line.Line.TheVariants as line
 use Rattle.rz_play.specs.Lines.{noted}
 use Rattle.rz_chronicle.specs.Keys.{IsLater, IsOneOf, events_at, actor_key}
 use Rattle.rz_chronicle.specs.Holds.{Stays}
-use Rattle.rz_shared_locked.specs.LockedNodes.{Answered, IsAskerRight}
-use Rattle.rz_threads.specs.Orders.{IsAdminAsk, is_want, Waits, IsNodeCalled, IsArmingDone, IsLineDone, AreDone, AreLinesBegun}
+use Rattle.rz_shared_locked.proofs.Behind.{alone, honest-keeps}
+use Rattle.rz_shared_locked.specs.LockedNodes.{Answered, IsAnswerAt, IsAskerRight}
+use Rattle.rz_threads.specs.Orders.{IsAdminAsk, is_want, Waits, IsOrderAnswered, IsNodeCalled, IsArmingDone, IsLineDone, AreDone, AreLinesBegun}
 
 -- Waiting.
 
@@ -55,13 +58,22 @@ told given other is = cc
 pub waits-kept : AreKept → (ks : List ℕ) → IsOneOf (actor_key Admin) ks → (old new : List Event) → IsLater old new → Stays ks old new → Waits old new
 waits-kept kept ks has old new later stays = record { later = later; own = kept Admin new old (stays (actor_key Admin) has) }
 
-pub called : AreKept → (kind ks : List ℕ) → IsOneOf (actor_key Admin) ks → (n : ℕ) (question : NodeAsk) (given : NodeAnswer) (old new : List Event) → is_want given ≡ false
-    → Answered kind n question given (node_event Admin n question given) ks old new → IsNodeCalled kind n question old new
-called kept kind ks has n question given old new other it = record {
+-- in a book whose log begins anew
+anew-answer : (kind : List ℕ) (earlier h : List Event) (n : ℕ) (question : NodeAsk) (given : NodeAnswer) → earlier ≡ [] → IsAnswerAt kind earlier h n question given → IsOrderAnswered kind h n question given
+anew-answer kind earlier h n question given anew it = record {
+  state = it.state;
+  is = it.is;
+  tied = λ honest. subst (λ (l : List Event). IsNode (facts l) (of_word (Node n) l) it.state) (alone h earlier anew) (it.tied (honest-keeps kind honest));
+  opening = λ honest. it.opening (honest-keeps kind honest);
+}
+
+pub called : AreKept → (kind : List ℕ) (earlier : List Event) → earlier ≡ [] → (ks : List ℕ) → IsOneOf (actor_key Admin) ks → (n : ℕ) (question : NodeAsk) (given : NodeAnswer) (old new : List Event) → is_want given ≡ false
+    → Answered kind earlier n question given (node_event Admin n question given) ks old new → IsNodeCalled kind n question old new
+called kept kind earlier anew ks has n question given old new other it = record {
   before = it.adds.before;
   waits = waits-kept kept ks has old it.adds.before it.adds.later it.adds.stays;
   given = given;
-  right = it.right;
+  right = anew-answer kind earlier it.adds.before n question given anew it.right;
   answered = told given other;
   new_is = it.adds.last;
 }
@@ -79,9 +91,9 @@ no-event n ask.Probe given h is want = absurd is
 no-event n (ask.Replace loss fence) given h is want = absurd is
 no-event n _ _ h is want = cc
 
-pub idle : AreKept → (kind ks : List ℕ) → IsOneOf (actor_key Admin) ks → (n : ℕ) (question : NodeAsk) (given : NodeAnswer) (old new : List Event) → IsAdminAsk question → is_want given ≡ true
-    → Answered kind n question given (node_event Admin n question given) ks old new → Waits old new
-idle kept kind ks has n question given old new order want it =
+pub idle : AreKept → (kind : List ℕ) (earlier : List Event) (ks : List ℕ) → IsOneOf (actor_key Admin) ks → (n : ℕ) (question : NodeAsk) (given : NodeAnswer) (old new : List Event) → IsAdminAsk question → is_want given ≡ true
+    → Answered kind earlier n question given (node_event Admin n question given) ks old new → Waits old new
+idle kept kind earlier ks has n question given old new order want it =
     subst (λ (h : List Event). Waits old h) (sym (it.adds.last ∙ no-event n question given it.adds.before order want))
     (waits-kept kept ks has old it.adds.before it.adds.later it.adds.stays)
 

@@ -1,20 +1,25 @@
 -- What the administrator's lines do to a log that others write too, the newest event first.
-use Rattle.std.specs.Prelude.{ℕ, Bool, true, false, ◌≡◌, ◌≢◌, List, [], ◌∷◌, ◌++◌}
+use Rattle.std.specs.Prelude.{ℕ, Bool, true, false, ◌≡◌, ◌≢◌, IsTrue, List, [], ◌∷◌, ◌++◌}
 use Rattle.rz_events.specs.declared.keys.Actor.TheVariants.{Admin}
 use Rattle.rz_events.specs.declared.nodes.NodeAsk.{NodeAsk}
 use Rattle.rz_events.specs.declared.nodes.NodeAsk.TheVariants as ask
 use Rattle.rz_events.specs.declared.nodes.NodeAnswer.{NodeAnswer}
 use Rattle.rz_events.specs.declared.nodes.NodeAnswer.TheVariants as answer
 use Rattle.rz_events.specs.declared.nodes.StartAnswer.TheVariants as start
+use Rattle.rz_events.specs.declared.events.Word.TheVariants.{Node}
 use Rattle.rz_events.specs.declared.events.Event.{Event}
 use Rattle.rz_events.specs.declared.events.Event.TheVariants as e
+use Rattle.rz_node_model.specs.States.{NodeState}
+use Rattle.rz_node_model.specs.Answers.{IsNodeAnswer}
 use Rattle.rz_node_model.specs.NodeEvents.{node_event}
-use Rattle.rz_core.specs.History.{of_actor}
+use Rattle.rz_core.specs.History.{facts, of_actor, of_word}
+use Rattle.rz_core.specs.NodeRows.{cells_of}
+use Rattle.rz_core.specs.Tied.{IsNode, IsOpening}
 use Rattle.rz_script.specs.declared.line.Line.{Line}
 use Rattle.rz_script.specs.declared.line.Line.TheVariants as line
 use Rattle.rz_play.specs.Lines.{noted}
 use Rattle.rz_chronicle.specs.Keys.{IsLater}
-use Rattle.rz_shared_locked.specs.LockedNodes.{IsAnswerAt}
+use Rattle.rz_chronicle.specs.Kinds.{is_honest, volume_in}
 
 -- these calls of a node the administrator alone makes
 abbrev pub IsAdminAsk : NodeAsk → Type 0
@@ -33,13 +38,21 @@ pub record Waits (old new : List Event) : Type 0 where
   pub later : IsLater old new
   pub own : of_actor Admin new ≡ of_actor Admin old
 
+-- Some node answers so; over an honest book it is the one that the log gives, and its disk did not refuse to open but for a
+-- disk fault.
+pub record IsOrderAnswered (kind : List ℕ) (h : List Event) (n : ℕ) (question : NodeAsk) (given : NodeAnswer) : Type 0 where
+  pub state : NodeState
+  pub is : IsNodeAnswer (cells_of (volume_in kind) n) state question given
+  pub tied : IsTrue (is_honest kind) → IsNode (facts h) (of_word (Node n) h) state
+  pub opening : IsTrue (is_honest kind) → IsOpening given
+
 -- The administrator called a node once: the answer is right after a log up to which it did nothing else, and on top of this log
 -- stands the event of the answer, if it has one.
 pub record IsNodeCalled (kind : List ℕ) (n : ℕ) (question : NodeAsk) (old new : List Event) : Type 0 where
   pub before : List Event
   pub waits : Waits old before
   pub given : NodeAnswer
-  pub right : IsAnswerAt kind before n question given
+  pub right : IsOrderAnswered kind before n question given
   pub answered : given ≢ answer.Start start.NoMemory
   pub new_is : new ≡ noted (node_event Admin n question given) before
 

@@ -1,6 +1,5 @@
 -- What a call adds to the own events of an actor.
 use Rattle.std.proofs.Common.{◌≡◌, ◌≢◌, ◌+◌, ◌<◌, ℕ, Bool, true, false, cond, IsTrue, List, [], ◌∷◌, ◌++◌, length, Option, Some, None, refl, sym, ◌∙◌, ap, subst, arith}
-use Rattle.std.specs.List.{All}
 use Rattle.std.specs.Prelude.{IfSome}
 use Rattle.std.proofs.lemmas.List.Sums.{sum_by-cons}
 use Rattle.rz_events.specs.declared.keys.Actor.{Actor}
@@ -13,12 +12,10 @@ use Rattle.rz_events.specs.declared.events.Event.{Event}
 use Rattle.rz_events.specs.declared.events.Event.TheVariants as e
 use Rattle.rz_events.specs.Events.{by_of, word_of}
 use Rattle.rz_events.specs.declared.export.Call.{Call}
-use Rattle.rz_events.specs.declared.export.Call.TheVariants as call
 use Rattle.rz_events.specs.declared.export.Reply.{Reply}
-use Rattle.rz_events.specs.declared.export.Reply.TheVariants as reply
 use Rattle.rz_export_model.specs.ExportEvents.{export_event}
 use Rattle.rz_operation.specs.Answers.{IsReplyTo}
-use Rattle.rz_core.specs.History.{Begun, facts, first_some, begun_by, wrote, of_actor}
+use Rattle.rz_core.specs.History.{facts, of_actor}
 use Rattle.rz_core.specs.Legal.{IsLegalInRuns}
 use Rattle.rz_core.specs.Longer.{IsNextRun}
 use Rattle.rz_operation_model.specs.Ask.{Saying, SayGot, SayGave, SayLeft, SayDone}
@@ -27,8 +24,8 @@ use Rattle.rz_play.specs.Faults.{is_missed, missed}
 use Rattle.rz_play.specs.Lines.{noted}
 use Rattle.rz_play_laws.specs.Own.{IsToldBy, IsOfActor}
 use Rattle.rz_play_laws.specs.Fine.{IsTelling}
+use Rattle.rz_play_laws.proofs.Events.{export-event}
 use Rattle.rz_play_laws.proofs.Frames.{of_actor-mine}
-use Rattle.rz_block_laws.specs.Acting.{AreBytes}
 use Rattle.rz_block_laws.specs.Laws.{IsRepliedLaw}
 use Rattle.rz_chronicle.specs.Keys.{IsOneOf, touches, count_at, events_at, actor_key, word_key}
 use Rattle.rz_chronicle.specs.Kinds.{Fits, HasEarlierLog, HavePlaces, keeps_legal, volume_in}
@@ -37,7 +34,6 @@ use Rattle.rz_chronicle.specs.Laws.{IsAddedAlone, IsOneRule}
 use Rattle.rz_chronicle.specs.Rules.{PassView}
 use Rattle.rz_chronicle.proofs.Keys.{touches-other}
 use Rattle.rz_shared_locked.specs.Adding.{AddsEvent}
-use Rattle.rz_shared_locked.specs.LockedExports as locked
 use Rattle.rz_shared_locked.specs.LockedNodes.{IsAskerRight}
 use Rattle.rz_threads_steps.specs.Adding.{AddsOwn}
 
@@ -123,39 +119,6 @@ node-moves by n ks old (Some x) new has word it =
     ap (count_at (word_key (Own by))) it.last ∙ count-other by n x it.before (word x refl) ∙ count-same (word_key (Own by)) it.before old (it.stays (word_key (Own by)) has)
 node-moves by n ks old None new has word it = ap (count_at (word_key (Own by))) it.last ∙ count-same (word_key (Own by)) it.before old (it.stays (word_key (Own by)) has)
 
--- Want of memory has no event.
-
-pub unreplied : (by : Actor) (c : Call) → export_event by c reply.NoMemory ≡ None
-unreplied by (call.Tree c) = refl
-unreplied by (call.Begin key text) = refl
-unreplied by (call.Publish key stamp mask size) = refl
-unreplied by (call.Look key) = refl
-unreplied by (call.Recheck key) = refl
-unreplied by (call.Enroll n loss) = refl
-unreplied by (call.Next n after) = refl
-
--- Texts.
-
--- what a write began with stands in the earlier log, or in this run
-wrote-behind : (new earlier : List Event) (s : ℕ) → wrote (new ++ earlier) s ≡ first_some (wrote earlier s) (wrote new s)
-wrote-behind [] earlier s = none-last (wrote earlier s)
-  where
-    none-last : (a : Option Begun) → a ≡ first_some a None
-    none-last (Some b) = refl
-    none-last None = refl
-wrote-behind (x ∷ new) earlier s = ap (λ (a : Option Begun). first_some a (begun_by s x)) (wrote-behind new earlier s) ∙ together (wrote earlier s)
-  where
-    together : (a : Option Begun) → first_some (first_some a (wrote new s)) (begun_by s x) ≡ first_some a (first_some (wrote new s) (begun_by s x))
-    together (Some b) = refl
-    together None = refl
-
-pub bytes-behind : (new earlier : List Event) → locked.AreBytes new → AreBytes (facts earlier) → AreBytes (facts (new ++ earlier))
-bytes-behind new earlier now before s b is = either (wrote earlier s) refl (sym (wrote-behind new earlier s) ∙ is)
-  where
-    either : (a : Option Begun) → wrote earlier s ≡ a → first_some a (wrote new s) ≡ Some b → All (λ x. x < 256) b.text
-    either (Some c) at same = before s b (at ∙ same)
-    either None at same = now s b same
-
 -- Events that are no loss.
 
 quiet-count : (x : Event) (h : List Event) → is_missed x ≡ false → missed (x ∷ h) ≡ missed h
@@ -167,17 +130,21 @@ quiet-count x h quiet =
 pub lost-count : (by : Actor) (n : ℕ) (reply : Bool) (h : List Event) → missed (e.Missed by n reply ∷ h) ≡ missed h + 1
 lost-count by n reply h = let c = sum_by-cons (λ (y : Event). cond (is_missed y) 1 0) (e.Missed by n reply) h in omega (arith, c)
 
-pub export-quiet : (x : Event) → word_of x ≡ Export → is_missed x ≡ false
+pub noted-quiet : (event : Option Event) (h : List Event) → ((x : Event) → event ≡ Some x → is_missed x ≡ false) → missed (noted event h) ≡ missed h
+noted-quiet (Some x) h quiet = quiet-count x h (quiet x refl)
+noted-quiet None h quiet = refl
+
+export-quiet : (x : Event) → word_of x ≡ Export → is_missed x ≡ false
 export-quiet (e.Missed by n reply) is = cc
 export-quiet (_) is = refl
+
+pub export-same : (kind : List ℕ) (earlier : List Event) (p q : PassView) (c : Call) (r : Reply) → AddsOwn kind earlier p (export_event p.actor c r) q → missed (of_actor p.actor q.log) ≡ missed (of_actor p.actor p.log)
+export-same kind earlier p q c r adds =
+    ap missed adds.own ∙ noted-quiet (export_event p.actor c r) (of_actor p.actor p.log) (λ x is. export-quiet x (export-event p.actor c r x is).word_is)
 
 pub node-quiet : (x : Event) (n : ℕ) → word_of x ≡ Node n → is_missed x ≡ false
 node-quiet (e.Missed by m reply) n is = cc
 node-quiet (_) n is = refl
-
-pub noted-quiet : (event : Option Event) (h : List Event) → ((x : Event) → event ≡ Some x → is_missed x ≡ false) → missed (noted event h) ≡ missed h
-noted-quiet (Some x) h quiet = quiet-count x h (quiet x refl)
-noted-quiet None h quiet = refl
 
 -- what an actor asks of a node, the administrator does not
 pub for-actor : (by : Actor) (question : NodeAsk) → ¬ (by ≡ Admin) → IsOfActor question → IsAskerRight by question

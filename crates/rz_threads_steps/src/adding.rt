@@ -37,7 +37,6 @@ pub(crate) fn call_export<R: Wait, D: Disk, J: Metering>(
     requires volume { store.now.volume ≡ volume_in J.kind }
     requires actor { ¬ (pass.old.actor ≡ Actor.Admin) }
     requires may { IsTrue (keeps_legal J.kind) → IsProperCall (volume_in J.kind) (facts (pass.old.log ++ J.earlier)) (of_actor pass.old.actor (pass.old.log ++ J.earlier)) pass.old.actor (call_of call) }
-    requires texts { IsTrue (keeps_legal J.kind) → AreBytes (facts J.earlier) }
     ensures adds { IfOk result (λ reply. AddsOwn J.kind J.earlier pass.old (export_event pass.old.actor (call_of call.entry) reply) pass.new) }
     ensures none { OnErr result (AddsOwn J.kind J.earlier pass.old None pass.new) }
     ensures answers { IfOk result (λ reply. IsTrue (keeps_legal J.kind) → IfSome (export_event pass.old.actor (call_of call.entry) reply) (λ x. IsReplyTo (volume_in J.kind).layout (call_of call.entry) reply)) }
@@ -51,11 +50,11 @@ pub(crate) fn call_export<R: Wait, D: Disk, J: Metering>(
     rz_block_laws::replied();
     let _rules = store.volume.node_count();
     let _own = pass.actor();
-    let reply = store.cluster.export_call_after(rt, &store.book, pass, call);
+    let reply = store.cluster.export_call(rt, &store.book, pass, call);
     let _seen = pass.actor();
     match reply {
-        Reply::NoMemory => Err(Halted),
-        reply => Ok(reply),
+        Ok(reply) => Ok(reply),
+        Err(_) => Err(Halted),
     }
 }
 
@@ -89,7 +88,7 @@ pub(crate) fn call_node<R: Wait, D: Disk, J: Metering>(
     let _own = pass.actor();
     let answer = store
         .cluster
-        .node_call_after(rt, &store.book, pass, node, ask, bins);
+        .node_call(rt, &store.book, pass, node, ask, bins);
     let _seen = pass.actor();
     answer
 }
@@ -115,6 +114,6 @@ pub(crate) fn add_own<D: Disk, J: Metering>(
     rz_play_laws::facts_told();
     let _rules = store.volume.node_count();
     let _own = pass.actor();
-    store.cluster.finish_after(&store.book, pass, event);
+    store.cluster.finish(&store.book, pass, event);
     let _seen = pass.actor();
 }

@@ -1,11 +1,10 @@
 //! Calls of the export that an operation asks for.
-ghost use Rattle.std.specs.Prelude.{◌≡◌, ◌++◌, ℕ, IfOk, OnOk, OnErr, IsTrue};
+ghost use Rattle.std.specs.Prelude.{◌≡◌, ℕ, IfOk, OnOk, OnErr};
 ghost use Rattle.rz_events.specs.Borrowed.{call_of};
 ghost use Rattle.rz_operation_model.specs.Ask.{ask_of, AskExport};
-ghost use Rattle.rz_core.specs.History.{facts, of_actor};
+ghost use Rattle.rz_core.specs.History.{of_actor};
 ghost use Rattle.rz_play.specs.Faults.{missed};
-ghost use Rattle.rz_block_laws.specs.Acting.{AreBytes};
-ghost use Rattle.rz_chronicle.specs.Kinds.{keeps_legal, volume_in};
+ghost use Rattle.rz_chronicle.specs.Kinds.{volume_in};
 ghost use Rattle.rz_show.specs.Shown.{shown_of};
 ghost use Rattle.rz_threads_steps.specs.Acted.{IsWorkRight, HasActed, IsStopped};
 ghost use Rattle.rz_threads_steps.specs.Adding.{PassLasts};
@@ -60,7 +59,6 @@ pub(crate) fn ask_export<R: Wait, D: Disk, J: Metering, S: Shows>(
     requires actor { ¬ (pass.old.actor ≡ Actor.Admin) }
     requires right { (number : ℕ) × IsWorkRight J.kind J.earlier pass.old number machine.old }
     requires shows { S.has shown.old (shown_of (of_actor pass.old.actor pass.old.log)) }
-    requires texts { IsTrue (keeps_legal J.kind) → AreBytes (facts J.earlier) }
     ensures lasts { PassLasts pass.old pass.new }
     ensures quiet { missed (of_actor pass.old.actor pass.new.log) ≡ missed (of_actor pass.old.actor pass.old.log) }
     ensures shows { S.has shown.new (shown_of (of_actor pass.old.actor pass.new.log)) }

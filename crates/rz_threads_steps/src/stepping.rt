@@ -1,10 +1,9 @@
 //! One turn of an operation.
-ghost use Rattle.std.specs.Prelude.{◌≡◌, ◌≤◌, IsTrue, OnOk, OnErr, length};
+ghost use Rattle.std.specs.Prelude.{◌≡◌, ◌≤◌, OnOk, OnErr, length};
 ghost use Rattle.mj_angles.specs.Layout.{max_bins_of};
 ghost use Rattle.rz_operation_model.specs.Ask.{ask_of};
-ghost use Rattle.rz_core.specs.History.{facts, of_actor};
-ghost use Rattle.rz_block_laws.specs.Acting.{AreBytes};
-ghost use Rattle.rz_chronicle.specs.Kinds.{keeps_legal, volume_in};
+ghost use Rattle.rz_core.specs.History.{of_actor};
+ghost use Rattle.rz_chronicle.specs.Kinds.{volume_in};
 ghost use Rattle.rz_show.specs.Shown.{shown_of};
 ghost use Rattle.rz_threads_steps.specs.Acted.{IsWorkRight, HasActed, IsStopped};
 ghost use Rattle.rz_threads_steps.specs.Adding.{PassLasts};
@@ -68,7 +67,6 @@ pub fn step<R: Wait, D: Disk, J: Metering, L: Link, S: Shows>(
     requires right { IsWorkRight J.kind J.earlier pass.old number machine.old }
     requires room { max_bins_of (volume_in J.kind).layout ≤ length bins.old }
     requires shows { S.has shown.old (shown_of (of_actor pass.old.actor pass.old.log)) }
-    requires texts { IsTrue (keeps_legal J.kind) → AreBytes (facts J.earlier) }
     ensures lasts { PassLasts pass.old pass.new }
     ensures lost { AreLost pass.old.actor pass.old.log pass.new.log (L.lost link.old) (L.lost link.new) }
     ensures shows { S.has shown.new (shown_of (of_actor pass.old.actor pass.new.log)) }

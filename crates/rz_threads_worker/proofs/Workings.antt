@@ -8,9 +8,8 @@ use Rattle.rz_events.specs.declared.keys.Actor.{Actor}
 use Rattle.rz_events.specs.declared.events.Event.{Event}
 use Rattle.rz_script.specs.Lines.{IsOperation}
 use Rattle.rz_operation.specs.Machine.{Machine, work_in}
-use Rattle.rz_core.specs.History.{facts, of_actor}
+use Rattle.rz_core.specs.History.{of_actor}
 use Rattle.rz_play.specs.World.{Agenda as APlayer}
-use Rattle.rz_block_laws.specs.Acting.{AreBytes}
 use Rattle.std.proofs.Math.Bool.{and-true}
 use Rattle.rz_chronicle.specs.Kinds.{HasEarlierLog, is_honest, is_none, keeps_legal, volume_in}
 use Rattle.rz_chronicle.specs.Rules.{PassView}
@@ -39,10 +38,6 @@ legal-honest : (kind : List ℕ) (earlier : List Event) → HasEarlierLog kind e
 legal-honest kind earlier has none =
     let it = subst (HasEarlierLog kind) none has in
     sym (ap (λ (b : Bool). keeps_legal kind && b) (ap is_none it.numbers) ∙ and-true (keeps_legal kind))
-
--- no text stands there
-pub no-texts : (earlier : List Event) → earlier ≡ [] → AreBytes (facts earlier)
-no-texts earlier none = subst (λ (h : List Event). AreBytes (facts h)) (sym none) (λ s b is. absurd (cc))
 
 module _ (kind : List ℕ) (earlier : List Event) (anew : earlier ≡ []) (p q : PassView) (s : Agenda) (m m' : Machine) (bins bins' : List ℕ) (shown shown' : List Event) (ready : IsWorkerReady kind p s bins shown) (lasts : PassLasts p q) where
   abbrev v : Volume

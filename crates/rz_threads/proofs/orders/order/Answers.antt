@@ -12,19 +12,21 @@ node_call-answer-requires-clause-actor g c = subst (λ (by : Actor). IsAskerRigh
 pub returns-then-wants_memory-clause-idle : goal.returns-then-wants_memory-clause-idle
 returns-then-wants_memory-clause-idle g c =
     let kind = g.J.Naming.kind in
+    let earlier = g.J.Naming.earlier in
     let old = c.args.pass.now in
     let has = subst (λ (by : Actor). IsOneOf (actor_key by) old.keys) c.requires.admin c.actor-own.ensures.own in
     let given = c.node_call-answer.result in
     let question = c.args.ask.now in
-    let answered = subst (λ (by : Actor). Answered kind c.args.node question given (node_event by c.args.node question given) old.keys old.log c.node_call-answer.new.pass.log) c.requires.admin c.node_call-answer.ensures.answered in
-    idle c.actors_kept.ensures kind old.keys has c.args.node question given old.log c.node_call-answer.new.pass.log c.requires.order (sym c.if-wants_memory.ensures) answered
+    let answered = subst (λ (by : Actor). Answered kind earlier c.args.node question given (node_event by c.args.node question given) old.keys old.log c.node_call-answer.new.pass.log) c.requires.admin c.node_call-answer.ensures.answered in
+    idle c.actors_kept.ensures kind earlier old.keys has c.args.node question given old.log c.node_call-answer.new.pass.log c.requires.order (sym c.if-wants_memory.ensures) answered
 
 pub returns-clause-called : goal.returns-clause-called
 returns-clause-called g c =
     let kind = g.J.Naming.kind in
+    let earlier = g.J.Naming.earlier in
     let old = c.args.pass.now in
     let has = subst (λ (by : Actor). IsOneOf (actor_key by) old.keys) c.requires.admin c.actor-own.ensures.own in
     let given = c.node_call-answer.result in
     let question = c.args.ask.now in
-    let answered = subst (λ (by : Actor). Answered kind c.args.node question given (node_event by c.args.node question given) old.keys old.log c.node_call-answer.new.pass.log) c.requires.admin c.node_call-answer.ensures.answered in
-    called c.actors_kept.ensures kind old.keys has c.args.node question given old.log c.node_call-answer.new.pass.log (sym c.if-wants_memory.ensures) answered
+    let answered = subst (λ (by : Actor). Answered kind earlier c.args.node question given (node_event by c.args.node question given) old.keys old.log c.node_call-answer.new.pass.log) c.requires.admin c.node_call-answer.ensures.answered in
+    called c.actors_kept.ensures kind earlier g.met.J.Counting.anew old.keys has c.args.node question given old.log c.node_call-answer.new.pass.log (sym c.if-wants_memory.ensures) answered

@@ -10,14 +10,14 @@ use Rattle.rz_threads_steps.proofs.Added.{Knows, adds-own, noted-quiet, node-mov
 use Rattle.rz_threads_steps.proofs.ShownEvents.{node-shown}
 use Rattle.rz_threads_steps.proofs.adding.call_node.Goals as goal
 
-pub node_call_after-answer-requires-clause-actor : goal.node_call_after-answer-requires-clause-actor
-node_call_after-answer-requires-clause-actor g c = for-actor c.args.pass.now.actor c.args.ask.now c.requires.actor c.requires.of_actor
+pub node_call-answer-requires-clause-actor : goal.node_call-answer-requires-clause-actor
+node_call-answer-requires-clause-actor g c = for-actor c.args.pass.now.actor c.args.ask.now c.requires.actor c.requires.of_actor
 
 pub returns-clause-served : goal.returns-clause-served
 returns-clause-served g c =
     let kind = g.J.Naming.kind in
     let old = c.args.pass.now in
-    let new = c.node_call_after-answer.new.pass in
+    let new = c.node_call-answer.new.pass in
     let knows : Knows kind g.J.Naming.earlier old new = record {
       kept = c.actors_kept.ensures;
       telling = c.facts_told.ensures (volume_in kind) (subst IsVolume c.requires.volume c.node_count-rules.ensures.rules);
@@ -25,20 +25,20 @@ returns-clause-served g c =
       next = c.next_run.ensures (volume_in kind);
       alone = c.added_alone.ensures;
       mine = c.actor-own.ensures.own;
-      same = c.node_call_after-answer.ensures.same;
+      same = c.node_call-answer.ensures.same;
       has = c.actor-own.ensures.earlier;
       fits = (c.actor-seen.ensures.fit, c.actor-seen.ensures.after);
       places = c.actor-seen.ensures.places;
     } in
-    let event = node_event old.actor c.args.node c.args.ask.now c.node_call_after-answer.result in
-    let its = node-event old.actor c.args.node c.args.ask.now c.node_call_after-answer.result in
-    let adds = adds-own kind g.J.Naming.earlier old new knows event (λ x is. (its x c.requires.of_actor is).by_is) c.node_call_after-answer.ensures.answered.adds in
+    let event = node_event old.actor c.args.node c.args.ask.now c.node_call-answer.result in
+    let its = node-event old.actor c.args.node c.args.ask.now c.node_call-answer.result in
+    let adds = adds-own kind g.J.Naming.earlier old new knows event (λ x is. (its x c.requires.of_actor is).by_is) c.node_call-answer.ensures.answered.adds in
     record {
       for_actor = c.requires.of_actor;
       adds = adds;
       quiet = ap missed adds.own ∙ noted-quiet event (of_actor old.actor old.log) (λ x is. node-quiet x c.args.node (its x c.requires.of_actor is).word_is);
       unshown = ap shown_of adds.own ∙ node-shown event c.args.node (of_actor old.actor old.log) (λ x is. (its x c.requires.of_actor is).word_is);
-      moves = node-moves old.actor c.args.node old.keys old.log event new.log c.actor-own.ensures.word (λ x is. (its x c.requires.of_actor is).word_is) c.node_call_after-answer.ensures.answered.adds;
-      read = c.node_call_after-answer.ensures.read;
-      by_node = (c.node_call_after-answer.ensures.answered.right.state, c.node_call_after-answer.ensures.answered.right.is);
+      moves = node-moves old.actor c.args.node old.keys old.log event new.log c.actor-own.ensures.word (λ x is. (its x c.requires.of_actor is).word_is) c.node_call-answer.ensures.answered.adds;
+      read = c.node_call-answer.ensures.read;
+      by_node = (c.node_call-answer.ensures.answered.right.state, c.node_call-answer.ensures.answered.right.is);
     }

@@ -6,10 +6,9 @@ use Rattle.rz_operation_model.specs.Ask.{AskExport}
 use Rattle.rz_operation_model.specs.Steps.{Replied}
 use Rattle.rz_core.specs.History.{of_actor}
 use Rattle.rz_play.specs.Faults.{missed}
-use Rattle.rz_play_laws.proofs.Events.{export-event}
 use Rattle.rz_chronicle.specs.Kinds.{volume_in}
 use Rattle.rz_show.specs.Shown.{shown_in, shown_of}
-use Rattle.rz_threads_steps.proofs.Added.{noted-quiet, export-quiet}
+use Rattle.rz_threads_steps.proofs.Added.{export-same}
 use Rattle.rz_threads_steps.proofs.Acts.{still-lasts, still-stopped, stopped-by, not-taken, on-err, shows-on, export-step, exported}
 use Rattle.rz_threads_steps.proofs.export_calls.ask_export.Goals as goal
 
@@ -71,9 +70,7 @@ returns-then-not-takes-clause-lasts g c = c.in_ok-reply.ensures.adds.lasts
 
 pub returns-then-not-takes-clause-quiet : goal.returns-then-not-takes-clause-quiet
 returns-then-not-takes-clause-quiet g c =
-    let p = c.args.pass.now in
-    let event = export_event p.actor (call_of c.in_ok-call.call) c.in_ok-reply.reply in
-    ap missed c.in_ok-reply.ensures.adds.own ∙ noted-quiet event (of_actor p.actor p.log) (λ x is. export-quiet x (export-event p.actor (call_of c.in_ok-call.call) c.in_ok-reply.reply x is).word_is)
+    export-same g.J.Naming.kind g.J.Naming.earlier c.args.pass.now c.call_export.new.pass (call_of c.in_ok-call.call) c.in_ok-reply.reply c.in_ok-reply.ensures.adds
 
 pub returns-then-not-takes-clause-shows : goal.returns-then-not-takes-clause-shows
 returns-then-not-takes-clause-shows g c =
@@ -95,9 +92,7 @@ returns-clause-lasts g c = c.in_ok-reply.ensures.adds.lasts
 
 pub returns-clause-quiet : goal.returns-clause-quiet
 returns-clause-quiet g c =
-    let p = c.args.pass.now in
-    let event = export_event p.actor (call_of c.in_ok-call.call) c.in_ok-reply.reply in
-    ap missed c.in_ok-reply.ensures.adds.own ∙ noted-quiet event (of_actor p.actor p.log) (λ x is. export-quiet x (export-event p.actor (call_of c.in_ok-call.call) c.in_ok-reply.reply x is).word_is)
+    export-same g.J.Naming.kind g.J.Naming.earlier c.args.pass.now c.call_export.new.pass (call_of c.in_ok-call.call) c.in_ok-reply.reply c.in_ok-reply.ensures.adds
 
 pub returns-clause-shows : goal.returns-clause-shows
 returns-clause-shows g c =

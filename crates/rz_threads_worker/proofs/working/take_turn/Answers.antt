@@ -11,7 +11,7 @@ use Rattle.rz_threads_steps.proofs.Acts.{still-lasts, on-err}
 use Rattle.rz_threads_worker.specs.Workers.{agenda_of}
 use Rattle.rz_threads_worker.proofs.Doings.{none-done, still-lost}
 use Rattle.rz_threads_worker.proofs.Agendas.{all-taken, ready-on, hand-layout, hand-right}
-use Rattle.rz_threads_worker.proofs.Workings.{no-texts, written, ready-again, turn-begun, turn-taken}
+use Rattle.rz_threads_worker.proofs.Workings.{written, ready-again, turn-begun, turn-taken}
 use Rattle.rz_threads_worker.proofs.working.take_turn.Goals as goal
 
 pub returns-in_err-begin_next-clause-lasts : goal.returns-in_err-begin_next-clause-lasts
@@ -86,6 +86,3 @@ returns-clause-ready g c = ready-again g.J.Naming.kind g.J.Naming.earlier g.met.
 
 pub returns-clause-done : goal.returns-clause-done
 returns-clause-done g c = turn-taken g.J.Naming.kind c.args.worker.now.pass c.step.new.pass c.layout-layout.result c.args.worker.now.agenda c.begin_next.new.self c.in-Some.machine (c.layout-layout.ensures ∙ ap (λ (v : Volume). v.layout) c.requires.volume) c.in_ok-begin_next.ensures c.in-Some.is (hand-layout g.J.Naming.kind c.args.worker.now.pass c.begin_next.new.self c.begin_next.new.self c.args.worker.now.bins.items c.args.worker.now.shown.items (ready-on g.J.Naming.kind c.args.worker.now.pass c.args.worker.now.agenda c.begin_next.new.self c.args.worker.now.bins.items c.args.worker.now.shown.items c.requires.ready (c.scripted.ensures (volume_in g.J.Naming.kind)) (c.begins.ensures (volume_in g.J.Naming.kind)) c.layout-layout.result (c.layout-layout.ensures ∙ ap (λ (v : Volume). v.layout) c.requires.volume) c.in_ok-begin_next.ensures) c.in-Some.machine c.in-Some.is) g.J.Naming.earlier c.actor-fit.ensures.earlier g.met.J.Counting.anew c.step.new.machine c.in_ok-step.ensures.acted
-
-pub step-requires-clause-texts : goal.step-requires-clause-texts
-step-requires-clause-texts g c = λ keeps. no-texts g.J.Naming.earlier g.met.J.Counting.anew
