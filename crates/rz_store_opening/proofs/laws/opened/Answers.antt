@@ -1,5 +1,5 @@
-use Rattle.rz_store.proofs.Openings as laws
-use Rattle.rz_store.proofs.opened.Goals as goal
+use Rattle.rz_store_opening.proofs.Openings as laws
+use Rattle.rz_store_opening.proofs.laws.opened.Goals as goal
 
 pub returns : goal.returns
 returns g c = laws.opened g.D.Disk.tells g.D.Disk.meter g.D.Disk.text g.D.Disk.image

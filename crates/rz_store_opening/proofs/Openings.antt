@@ -17,7 +17,7 @@ use Rattle.rz_chronicle.specs.Kinds.{volume_in}
 use Rattle.rz_nodes.specs.Formatted.{geometry_of}
 use Rattle.rz_restart_laws.specs.Found.{StandsByLog}
 use Rattle.rz_restart_laws.specs.Laws.{IsFoundLaw}
-use Rattle.rz_store.specs.Opened.{IsReadyLaw, IsOpenedLaw}
+use Rattle.rz_store_opening.specs.Opened.{IsReadyLaw, IsOpenedLaw}
 
 pub ready : {D : Type 0} (tells : Bool) (meter : D → Meter) (text : D → List ℕ) (image : D → List ℕ → Type 0) → IsFoundLaw image → IsReadyLaw tells meter text image
 ready tells meter text image found kind here h old export nodes first s told opened back on same = record {

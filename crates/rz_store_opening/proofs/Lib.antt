@@ -1,0 +1,3 @@
+mod Openings
+mod Taken
+mod OpenedStores
