@@ -1,0 +1,3 @@
+pub mod Sole
+pub mod Runs
+pub mod Performed
