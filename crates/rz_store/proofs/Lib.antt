@@ -1,0 +1,5 @@
+pub mod Wholes
+pub mod Puts
+pub mod Gets
+pub mod Calls
+pub mod Cuts

@@ -1,0 +1,4 @@
+pub mod Store
+pub mod Causes
+pub mod Outcomes
+pub mod Names

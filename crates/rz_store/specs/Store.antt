@@ -1,0 +1,84 @@
+-- A store as its users see it, and what its calls make of it.
+use Rattle.std.specs.Prelude.{ℕ, zero, suc, ◌≡◌, ◌≤◌, ◌+◌, ◌-◌, IsTrue, List, take, length, min, nat_lt, cond, Option}
+use Rattle.rz_events.specs.Volume.{Volume}
+use Rattle.rz_events.specs.declared.ends.WriteEnd.TheVariants as write
+use Rattle.rz_events.specs.declared.tree.TreeCall.{TreeCall}
+use Rattle.rz_events.specs.declared.tree.TreeReply.{TreeReply}
+use Rattle.rz_events.specs.declared.events.Event.{Event}
+use Rattle.rz_export_model.specs.Tree.{Tree, Found, grown}
+use Rattle.rz_chronicle.specs.Kinds.{keeps_legal}
+use Rattle.rz_contents.specs.Model.{Model, model_of, IsSame}
+use Rattle.rz_contents.specs.Putting.{model_put}
+use Rattle.rz_contents.specs.Files as files
+use Rattle.rz_contents.specs.Files.{IsFileAt, key_in}
+use Rattle.rz_contents.specs.Ranges.{HasBytes, AreBytes}
+
+-- What contracts see of a store in hand: the volume, and the log of all runs, which has the newest event first.
+pub record StoreView : Type 0 where
+  pub volume : Volume
+  pub log : List Event
+
+-- what its users see: the names, and what each block of each file contains
+abbrev pub model_in : StoreView → Model
+model_in s = model_of s.volume s.log
+
+-- So it is over disks that tell what they hold: the book then keeps its log legal.
+abbrev pub IfLegal : List ℕ → Type 0 → Type 0
+IfLegal kind so = IsTrue (keeps_legal kind) → so
+
+-- users see no difference
+abbrev pub LooksSame : StoreView → StoreView → Type 0
+LooksSame old new = IsSame (model_in old) (model_in new)
+
+-- Blocks.
+
+-- The block of the file at the path contains this text now. No other block was changed, and of the names the size of that file alone,
+-- which was raised to the end of the text where that lay behind it.
+pub record IsPut (old : StoreView) (path : List ℕ) (block : ℕ) (text : List ℕ) (new : StoreView) : Type 0 where
+  pub file : Found
+  pub at : IsFileAt (model_in old).names path file
+  pub stamp : ℕ
+  pub mask : ℕ
+  pub put : IsSame (model_put old.volume.layout (write.Acked stamp mask) (key_in file block) text (model_in old)) (model_in new)
+
+-- this is what the block of the file at the path contains
+pub record IsGot (s : StoreView) (path : List ℕ) (block : ℕ) (text : Option (List ℕ)) : Type 0 where
+  pub file : Found
+  pub at : IsFileAt (model_in s).names path file
+  pub got : (model_in s).blocks (key_in file block) ≡ text
+
+-- Ranges.
+
+-- the names after so many bytes were written from an offset on; where there are none, nothing is written
+abbrev pub names_written : ℕ → ℕ → ℕ → Tree → Tree
+names_written fid offset count t = cond (nat_lt 0 count) (grown t fid (offset + count)) t
+
+-- The file at the path has these bytes from an offset on. All else is as it was, but for the size of that file, which was raised to where
+-- they end.
+pub record IsWritten (old : StoreView) (path : List ℕ) (offset : ℕ) (bytes : List ℕ) (new : StoreView) : Type 0 where
+  pub file : Found
+  pub at : IsFileAt (model_in old).names path file
+  pub written : HasBytes old.volume.layout (model_in old) file.fid offset bytes (model_in new)
+  pub names : (model_in new).names ≡ names_written file.fid offset (length bytes) (model_in old).names
+
+-- So many bytes at the front are written, or none, and nothing is changed.
+abbrev pub IsUpTo : StoreView → List ℕ → ℕ → ℕ → List ℕ → StoreView → Type 0
+IsUpTo old path offset zero bytes new = LooksSame old new
+IsUpTo old path offset (suc n) bytes new = (suc n ≤ length bytes) × IsWritten old path offset (take (suc n) bytes) new
+
+-- these are bytes of the file at the path from an offset on
+abbrev pub HasPart : StoreView → List ℕ → ℕ → List ℕ → Type 0
+HasPart s path offset bytes = (file : Found) × IsFileAt (model_in s).names path file × AreBytes s.volume.layout (model_in s) file.fid offset bytes
+
+-- These are the bytes of the file at the path from an offset on, as many as were wanted or as it has there.
+pub record IsRead (s : StoreView) (path : List ℕ) (offset wanted : ℕ) (bytes : List ℕ) : Type 0 where
+  pub file : Found
+  pub at : IsFileAt (model_in s).names path file
+  pub many : length bytes ≡ min wanted (file.object.size - offset)
+  pub read : AreBytes s.volume.layout (model_in s) file.fid offset bytes
+
+-- Names.
+
+-- The reply is that of the names as they were, the names are those after the call, and no block of any file was changed.
+abbrev pub IsCalled : StoreView → TreeCall → TreeReply → StoreView → Type 0
+IsCalled old c told new = files.IsCalled old.volume old.log c told new.log

@@ -1,0 +1,192 @@
+//! Single blocks.
+ghost use Rattle.std.specs.Prelude.{◌≡◌, ◌≤◌, IfOk, IfErr, OnOk, OnErr, length, Option};
+ghost use Rattle.mj_angles.specs.Layout.{block_bytes_of};
+ghost use Rattle.rz_events.specs.declared.operations.Datum.TheVariants as datum;
+ghost use Rattle.rz_events.specs.declared.operations.Operation.TheVariants as operation;
+ghost use Rattle.rz_operation.specs.Machine.{text_of};
+ghost use Rattle.rz_operation_model.specs.Ask.{ask_of};
+ghost use Rattle.rz_store.specs.Store.{IfLegal, LooksSame, IsPut, IsGot};
+ghost use Rattle.rz_store.specs.Causes.{IsReadCause, IsWriteCause};
+ghost use Rattle.rz_store.specs.Outcomes.{fault_of, put_fault, write_denied, read_denied, told_by, IsGetTold};
+
+use crate::faults::{ReadFault, WriteFault};
+use crate::store::Store;
+use rz_disk::Disk;
+use rz_events::{Answer, Datum, Denial, Operation, ReadEnd, Text, WriteEnd};
+use rz_operation::{Ask, Machine, Saying};
+use rz_shared::Metering;
+use rz_store_turns::{Performed, Stop};
+use std::alloc::{AllocError, Global};
+use std::sync::Wait;
+
+/// The put of a block, in new memory.
+fn put_of(alloc: Global, path: &str, block: u64, bytes: &[u8]) -> Result<Operation, AllocError>
+    ensures { IfOk result (λ op. op ≡ operation.Put path.now block (datum.Bytes bytes.now)) }
+{
+    Ok(Operation::Put {
+        path: Text::from_bytes(alloc, path.as_bytes())?,
+        block,
+        datum: Datum::Bytes(Text::from_bytes(alloc, bytes)?),
+    })
+}
+
+/// The get of a block, in new memory.
+fn get_of(alloc: Global, path: &str, block: u64) -> Result<Operation, AllocError>
+    ensures { IfOk result (λ op. op ≡ operation.Get path.now block) }
+{
+    let path = Text::from_bytes(alloc, path.as_bytes())?;
+    Ok(Operation::Get { path, block })
+}
+
+/// Why a block is not written whose write was denied.
+fn write_denied(why: Denial) -> WriteFault
+    ensures { result ≡ write_denied why }
+{
+    match why {
+        Denial::BlockTooFar => WriteFault::TooFar,
+        Denial::StampsSpent => WriteFault::StampsSpent,
+        Denial::UnknownFile | Denial::OldLoss { .. } => WriteFault::Disturbed,
+    }
+}
+
+/// Why a block is not written whose write ended so.
+fn fault_of(end: WriteEnd) -> Option<WriteFault>
+    ensures { result ≡ fault_of end }
+{
+    match end {
+        WriteEnd::Acked { .. } => None,
+        WriteEnd::TooFew { why } => Some(WriteFault::TooFew(why)),
+        WriteEnd::Denied(why) => Some(write_denied(why)),
+        WriteEnd::Revoked { .. } => Some(WriteFault::Disturbed),
+    }
+}
+
+/// Why a block is not written whose put is about to say its last word.
+fn put_fault(machine: &Machine) -> Option<WriteFault>
+    ensures { result ≡ put_fault (ask_of machine.now.layout machine.now.work) }
+{
+    match machine.next() {
+        Ask::Say(Saying::Gave { end, .. }) => fault_of(end),
+        Ask::Say(Saying::Done(answer)) => match answer {
+            Answer::Refused(fault) => Some(WriteFault::Names(*fault)),
+            _ => Some(WriteFault::Disturbed),
+        },
+        _ => Some(WriteFault::Disturbed),
+    }
+}
+
+/// Why a block is not read whose read was denied.
+fn read_denied(why: Denial) -> ReadFault
+    ensures { result ≡ read_denied why }
+{
+    match why {
+        Denial::BlockTooFar => ReadFault::TooFar,
+        Denial::StampsSpent | Denial::UnknownFile | Denial::OldLoss { .. } => ReadFault::Disturbed,
+    }
+}
+
+/// What a read tells that ended so.
+fn told_by(end: ReadEnd) -> Result<Option<Text>, ReadFault>
+    ensures { result ≡ told_by end }
+{
+    match end {
+        ReadEnd::Found { text, .. } => Ok(Some(text)),
+        ReadEnd::Hole => Ok(None),
+        ReadEnd::TooFew { seen } => Err(ReadFault::TooFew(seen)),
+        ReadEnd::Inconsistent => Err(ReadFault::Altered),
+        ReadEnd::Denied(why) => Err(read_denied(why)),
+        ReadEnd::Moved { .. } => Err(ReadFault::Disturbed),
+    }
+}
+
+/// What a get tells that is about to say its last word.
+fn get_told(alloc: Global, machine: &Machine) -> Result<Option<Text>, ReadFault>
+    ensures { IsGetTold (text_of machine.now) (ask_of machine.now.layout machine.now.work) result }
+{
+    match machine.next() {
+        Ask::Say(Saying::Got { mark, .. }) => match machine.read_end(alloc, mark) {
+            Ok(end) => told_by(end),
+            Err(_) => Err(ReadFault::Stopped(Stop::NoMemory)),
+        },
+        Ask::Say(Saying::Done(answer)) => match answer {
+            Answer::Refused(fault) => Err(ReadFault::Names(*fault)),
+            _ => Err(ReadFault::Disturbed),
+        },
+        _ => Err(ReadFault::Disturbed),
+    }
+}
+
+impl<D: Disk, J: Metering> Store<D, J> {
+    /// Writes a block of the file at a path: it contains these bytes then, and nothing behind them. Where it
+    /// answers an error nothing is changed.
+    pub fn put<R: Wait>(
+        &mut self,
+        rt: &R,
+        path: &str,
+        block: u64,
+        bytes: &[u8],
+    ) -> Result<(), WriteFault>
+        requires short { length bytes.now ≤ block_bytes_of self.old.volume.layout }
+        ensures done { OnOk result (IfLegal J.kind (IsPut self.old path.now block bytes.now self.new)) }
+        ensures kept { OnErr result (IfLegal J.kind (LooksSame self.old self.new)) }
+        ensures cause { IfErr result (λ f. IfLegal J.kind (IsWriteCause self.old path.now block f)) }
+        ensures volume { self.new.volume ≡ self.old.volume }
+    {
+        rz_contents::leads_to_block();
+        rz_contents::put_watched();
+        rz_contents::puts_caused();
+        rz_contents::still();
+        let Ok(op) = put_of(self.sole.alloc(), path, block, bytes) else {
+            return Err(WriteFault::Stopped(Stop::NoMemory));
+        };
+        let Performed { machine, stopped } = match self.sole.perform(rt, op) {
+            Ok(performed) => performed,
+            Err(why) => return Err(WriteFault::Stopped(why)),
+        };
+        if let Some(why) = stopped {
+            self.sole.end(machine);
+            return Err(WriteFault::Stopped(why));
+        }
+        let fault = put_fault(&machine);
+        self.sole.finish(rt, machine);
+        match fault {
+            None => Ok(()),
+            Some(fault) => Err(fault),
+        }
+    }
+
+    /// What a block of the file at a path contains, in new memory: nothing where it was never written.
+    pub fn get<R: Wait>(
+        &mut self,
+        rt: &R,
+        path: &str,
+        block: u64,
+    ) -> Result<Option<Text>, ReadFault>
+        ensures told { IfOk result (λ text. IfLegal J.kind (IsGot self.old path.now block text)) }
+        ensures same { IfLegal J.kind (LooksSame self.old self.new) }
+        ensures cause { IfErr result (λ f. IfLegal J.kind (IsReadCause self.old path.now block f)) }
+        ensures volume { self.new.volume ≡ self.old.volume }
+    {
+        rz_contents::leads_to_block();
+        rz_contents::get_watched();
+        rz_contents::get_alone();
+        rz_contents::gets_caused();
+        rz_contents::still();
+        let Ok(op) = get_of(self.sole.alloc(), path, block) else {
+            return Err(ReadFault::Stopped(Stop::NoMemory));
+        };
+        let Performed { machine, stopped } = match self.sole.perform(rt, op) {
+            Ok(performed) => performed,
+            Err(why) => return Err(ReadFault::Stopped(why)),
+        };
+        if let Some(why) = stopped {
+            self.sole.end(machine);
+            return Err(ReadFault::Stopped(why));
+        }
+        let told = get_told(self.sole.alloc(), &machine);
+        match self.sole.conclude(rt, machine) {
+            Ok(()) => told,
+            Err(why) => Err(ReadFault::Stopped(why)),
+        }
+    }
+}
