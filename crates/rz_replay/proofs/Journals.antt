@@ -2,6 +2,7 @@
 use Rattle.std.proofs.Common.{ℕ, zero, suc, inl, inr, ◌⊎◌, ◌≡◌, ◌≢◌, ◌+◌, ◌<◌, ◌≤◌, Bool, true, false, IsTrue, List, [], ◌∷◌, ◌++◌, Option, Some, None, length, refl, sym, ap, ◌∙◌, subst, arith}
 use Rattle.mj_angles.specs.declared.layout.Layout.{Layout}
 use Rattle.rz_disk.specs.Meter.{Meter, faults, Rises as HasRisen}
+use Rattle.rz_disk.specs.declared.disk.Disk.{Ghosts}
 use Rattle.rz_events.specs.Volume.{Volume}
 use Rattle.rz_events.specs.declared.files.NodeSpec.{NodeSpec}
 use Rattle.rz_events.specs.declared.export.Call.{Call}
@@ -40,22 +41,22 @@ plain-end ends.Journal why r disks journaled is cut = let journal : IsTrue journ
 plain-end ends.JournalFull why r disks journaled is cut = let journal : IsTrue journaled = cut.1 in cc
 
 -- the disks are those of the nodes
-pub plain-back : {D : Type 0} (tells : Bool) (text : D → List ℕ) (meter : D → Meter) (image : D → List ℕ → Type 0) (course : Course) (wish : Wish) (v : Volume) (lines : List Line) (lost : ℕ) (old new : List D) (h : List Event)
+pub plain-back : {D : Type 0} (G : Ghosts D) (course : Course) (wish : Wish) (v : Volume) (lines : List Line) (lost : ℕ) (old new : List D) (h : List Event)
     → wish ≢ wishes.First → wish ≢ wishes.Again
-    → AreFaultsTold meter v old new (asked_in course ++ h) × AreImagesTold tells meter image course v old new h → AreBackFrom tells text meter image course wish v lines lost old new h
-plain-back tells text meter image course wishes.Replay v lines lost old new h plain anew back = back
-plain-back tells text meter image course (wishes.Load seed) v lines lost old new h plain anew back = back
-plain-back tells text meter image course wishes.Scrub v lines lost old new h plain anew back = back
-plain-back tells text meter image course wishes.First v lines lost old new h plain anew back = absurd (plain refl)
-plain-back tells text meter image course wishes.Again v lines lost old new h plain anew back = absurd (anew refl)
+    → AreFaultsTold G.meter v old new (asked_in course ++ h) × AreImagesTold G course v old new h → AreBackFrom G course wish v lines lost old new h
+plain-back G course wishes.Replay v lines lost old new h plain anew back = back
+plain-back G course (wishes.Load seed) v lines lost old new h plain anew back = back
+plain-back G course wishes.Scrub v lines lost old new h plain anew back = back
+plain-back G course wishes.First v lines lost old new h plain anew back = absurd (plain refl)
+plain-back G course wishes.Again v lines lost old new h plain anew back = absurd (anew refl)
 
 -- with one, that of the journal is behind them
-module _ {D : Type 0} (tells : Bool) (text : D → List ℕ) (meter : D → Meter) (image : D → List ℕ → Type 0) (course : Course) (wish : Wish) (v : Volume) (lines : List Line) (lost : ℕ) (old new : List D) (h : List Event) where
-  pub first-back : wish ≡ wishes.First → AreAllBack tells meter image course v lines lost old new h → AreBackFrom tells text meter image course wish v lines lost old new h
-  first-back is back = subst (λ (w : Wish). AreBackFrom tells text meter image course w v lines lost old new h) (sym is) back
+module _ {D : Type 0} (G : Ghosts D) (course : Course) (wish : Wish) (v : Volume) (lines : List Line) (lost : ℕ) (old new : List D) (h : List Event) where
+  pub first-back : wish ≡ wishes.First → AreAllBack G course v lines lost old new h → AreBackFrom G course wish v lines lost old new h
+  first-back is back = subst (λ (w : Wish). AreBackFrom G course w v lines lost old new h) (sym is) back
 
-  pub again-back : wish ≡ wishes.Again → AreBackAgain tells text meter image course v lines lost old new h → AreBackFrom tells text meter image course wish v lines lost old new h
-  again-back is back = subst (λ (w : Wish). AreBackFrom tells text meter image course w v lines lost old new h) (sym is) back
+  pub again-back : wish ≡ wishes.Again → AreBackAgain G course v lines lost old new h → AreBackFrom G course wish v lines lost old new h
+  again-back is back = subst (λ (w : Wish). AreBackFrom G course w v lines lost old new h) (sym is) back
 
 -- The last of some disks.
 
@@ -137,16 +138,16 @@ journal-end ends.NoMemory why journaled r disks has cut risen = tt
 journal-end ends.JournalFull why journaled r disks has cut risen = has
 journal-end ends.Journal why journaled r disks has cut risen = (has, risen (failed-is why cut.0))
 
-module _ {D : Type 0} (tells : Bool) (meter : D → Meter) (image : D → List ℕ → Type 0) (v : Volume) (old new : D) (h : List Event) (stops : Call → Type 0) (why : Option JournalRefusal) (journaled : Bool) where
+module _ {D : Type 0} (G : Ghosts D) (v : Volume) (old new : D) (h : List Event) (stops : Call → Type 0) (why : Option JournalRefusal) (journaled : Bool) where
   abbrev Ends : Option JournalRefusal → Option Call → Type 0
-  Ends o c = EndsAsRefused o c tells (image new) (faults (meter old)) (faults (meter new)) v h
+  Ends o c = EndsAsRefused o c G.tells (G.image new) (faults (G.meter old)) (faults (G.meter new)) v h
 
-  pub journal-left : (end : PlayEnd) (refused : Option Call) → EndsBy journaled (end_by why) end → EndsAfter end refused → ((c : Call) → refused ≡ Some c → stops c) → BetweenTurns end (IsTrue tells → StandsForLog (image new) v h)
-      → Ends why refused → IsJournalLeft tells meter image stops end v old new h
+  pub journal-left : (end : PlayEnd) (refused : Option Call) → EndsBy journaled (end_by why) end → EndsAfter end refused → ((c : Call) → refused ≡ Some c → stops c) → BetweenTurns end (IsTrue G.tells → StandsForLog (G.image new) v h)
+      → Ends why refused → IsJournalLeft G stops end v old new h
   journal-left ends.Ended refused cut after stopped stands ended = stands
   journal-left ends.TooManyTurns refused cut after stopped stands ended = stands
   journal-left ends.NoMemory refused cut after stopped stands ended =
-      whole-stands why refused tells (image new) (faults (meter old)) (faults (meter new)) v h (λ failed. let never : None ≡ Some Failed = sym (none-is why cut.0) ∙ failed in cc) ended
+      whole-stands why refused G.tells (G.image new) (faults (G.meter old)) (faults (G.meter new)) v h (λ failed. let never : None ≡ Some Failed = sym (none-is why cut.0) ∙ failed in cc) ended
   journal-left ends.Journal None cut after stopped stands ended = absurd (cc)
   journal-left ends.Journal (Some c) cut after stopped stands ended = (c, stopped c refl, subst (λ (o : Option JournalRefusal). Ends o (Some c)) (failed-is why cut.0) ended)
   journal-left ends.JournalFull None cut after stopped stands ended = absurd (cc)

@@ -13,8 +13,9 @@ use Rattle.rz_request.specs.declared.wishes.Request.{Request}
 use Rattle.rz_request.specs.declared.wishes.Wish.TheVariants.{Again}
 use Rattle.rz_report.specs.Output.{Sunk}
 use Rattle.rz_report.specs.Replays.{Unplayed, Opens}
-use Rattle.rz_report.specs.Telling.{TellsUnformatted}
+use Rattle.rz_report.specs.Telling.{Stops}
 use Rattle.rz_replay.specs.Disks.{faulted}
+use Rattle.rz_replay.specs.Drivers.{unformatted}
 
 module _ {D : Type 0} (tells : Bool) (meter : D → Meter) (image : D → List ℕ → Type 0) (layout : Layout) where
   -- no count fell
@@ -52,7 +53,7 @@ risen x y o n x_is y_is lasts rises = omega (arith, x_is, y_is, lasts, rises)
 
 -- why there is no driver, as a request that was not played
 pub not-opened : {D : Type 0} (tells : Bool) (meter : D → Meter) (r : Request) (old new : List D) (lost : ℕ) (sink : Sunk) (status : ℕ) (h : List Event) (fault : DriverFault) → r.wish ≢ Again
-    → ((i : ℕ) → faults_at meter old i ≤ faults_at meter new i) → IsCause meter old new fault → TellsUnformatted fault sink status → h ≡ [] → Opens tells Unplayed r (faulted meter old new) lost sink status h
+    → ((i : ℕ) → faults_at meter old i ≤ faults_at meter new i) → IsCause meter old new fault → Stops (unformatted fault) sink status → h ≡ [] → Opens tells Unplayed r (faulted meter old new) lost sink status h
 not-opened tells meter r old new lost sink status h NoMemory anew back cause fails none = inl (fails, none)
 not-opened tells meter r old new lost sink status h (Disk index) anew back cause fails none =
     inr (

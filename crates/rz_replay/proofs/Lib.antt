@@ -1,8 +1,10 @@
 pub mod Asked
 pub mod Completing
 pub mod Continuing
+pub mod Beginnings
 pub mod Journals
 pub mod Lent
+pub mod Unmade
 pub mod Untold
 pub mod Wanting
 pub mod Blocks

@@ -1,7 +1,7 @@
 -- Where memory is wanting before it is known what the words want, nothing is done.
-use Rattle.std.proofs.Common.{ℕ, ◌≡◌, Bool, List, [], Option, Some, None, IsSome, Err, refl}
+use Rattle.std.proofs.Common.{ℕ, ◌≡◌, List, [], Option, Some, None, IsSome, Err, refl}
 use Rattle.rz_request.specs.Line.{Meaning}
-use Rattle.rz_disk.specs.Meter.{Meter}
+use Rattle.rz_disk.specs.declared.disk.Disk.{Ghosts}
 use Rattle.rz_events.specs.declared.events.Event.{Event}
 use Rattle.rz_request.specs.Requests.{AsksFor, IsUnread, Reading, wished}
 use Rattle.rz_request.specs.declared.refusal.Stop.TheVariants.{NoMemory}
@@ -19,11 +19,11 @@ asked (Some Scrub) m source disks some unread = (tt, tt)
 asked (Some First) m source disks some unread = (tt, tt)
 asked (Some Again) m source disks some unread = (tt, tt)
 
-module _ {D : Type 0} (tells : Bool) (text : D → List ℕ) (meter : D → Meter) (image : D → List ℕ → Type 0) (words : Option Meaning) (source : Reading) (disks : List D)
+module _ {D : Type 0} (G : Ghosts D) (words : Option Meaning) (source : Reading) (disks : List D)
     (lost : ℕ) (sink : Sunk) (status : ℕ) (h : List Event) (some : IsSome words) (unread : IsUnread source) (lacks : Lacks sink status) (none : h ≡ []) where
-  does : (node : Option ℕ) → Does tells text meter image node words source disks disks lost sink status h
+  does : (node : Option ℕ) → Does G node words source disks disks lost sink status h
   does None = (Err NoMemory, Unplayed, asked (wished words) words source _ some unread, (lacks, none, refl), refl)
   does (Some sid) = ((Err NoMemory, (Err NoMemory, tt, (refl, refl)), lacks), none)
 
-  pub wanting : Replays tells text meter image words source disks disks lost sink status h
+  pub wanting : Replays G words source disks disks lost sink status h
   wanting = does (old_node_of words)

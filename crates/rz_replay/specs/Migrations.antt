@@ -1,6 +1,6 @@
 -- What a migration over disks comes to.
-use Rattle.std.specs.Prelude.{ℕ, Bool, ◌⊎◌, List, Result, Ok, Err}
-use Rattle.rz_disk.specs.Meter.{Meter}
+use Rattle.std.specs.Prelude.{ℕ, ◌⊎◌, List, Result, Ok, Err}
+use Rattle.rz_disk.specs.declared.disk.Disk.{Ghosts}
 use Rattle.rz_request.specs.Requests.{Reading}
 use Rattle.rz_request.specs.declared.refusal.Stop.{Stop}
 use Rattle.rz_request.specs.Carried.{Migrates, migrated_line}
@@ -14,6 +14,6 @@ TellsMigration (Ok m) sink status = Ends sink 0 (migrated_line m) status ⊎ Lac
 TellsMigration (Err stop) sink status = Stops stop sink status
 
 -- the old disk of node `sid` is carried over, or why it is not; and that is told
-abbrev pub IsMigrationTold : {D : Type 0} → Bool → (D → List ℕ) → (D → List ℕ → Type 0) → (D → Meter) → (sid : ℕ) → Reading → List D → List D → Sunk → ℕ → Type 0
-IsMigrationTold tells text image meter sid source old new sink status =
-    (r : Result Migrated Stop) × Migrates tells text image meter sid source old new r × TellsMigration r sink status
+abbrev pub IsMigrationTold : {D : Type 0} → Ghosts D → (sid : ℕ) → Reading → List D → List D → Sunk → ℕ → Type 0
+IsMigrationTold G sid source old new sink status =
+    (r : Result Migrated Stop) × Migrates G sid source old new r × TellsMigration r sink status

@@ -1,6 +1,7 @@
 -- What the nodes give of published blocks, between two turns of a play.
-use Rattle.std.specs.Prelude.{ℕ, ◌≡◌, Bool, IsTrue, List, ◌++◌}
+use Rattle.std.specs.Prelude.{◌≡◌, IsTrue, List, ◌++◌}
 use Rattle.rz_disk.specs.UnderFuse.{UnderFuse}
+use Rattle.rz_disk.specs.declared.disk.Disk.{Ghosts}
 use Rattle.rz_events.specs.Volume.{Volume}
 use Rattle.rz_events.specs.declared.events.Event.{Event}
 use Rattle.rz_core.specs.HeldRecords.{block_of}
@@ -18,8 +19,8 @@ use Rattle.rz_driver_nodes.specs.Servers.{state_in}
 
 -- Of each published block the nodes give the projections of the text with which the write of its stamp began, in this run or in an
 -- earlier one.
-abbrev pub IsUntouchedLaw : {D : Type 0} → Bool → (D → List ℕ) → (D → List ℕ → Type 0) → Type 0
-IsUntouchedLaw {D = D} tells text image =
+abbrev pub IsUntouchedLaw : {D : Type 0} → Ghosts D → Type 0
+IsUntouchedLaw {D = D} G =
     (v : Volume) (old : List Event) (w : World) (agendas : List Agenda) (servers : List (Server (UnderFuse D))) → w.nodes ≡ state_in servers
-    → IsCoherent (fused_image image) v old w agendas servers → IsTrue tells
-    → EachListed w.export (λ l. AreGiven v.layout (GivesIn tells (fused_text text) servers) w.nodes l (block_of v.layout (text_in ((facts (w.log ++ old)).wrote l.published.stamp))))
+    → IsCoherent (fused_image G.image) v old w agendas servers → IsTrue G.tells
+    → EachListed w.export (λ l. AreGiven v.layout (GivesIn G.tells (fused_text G.text) servers) w.nodes l (block_of v.layout (text_in ((facts (w.log ++ old)).wrote l.published.stamp))))

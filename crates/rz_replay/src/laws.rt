@@ -9,7 +9,7 @@ use rz_disk::Disk;
 /// turn too many is called for, the journal's disk neither fails nor is full, and neither the source nor the
 /// sink fails. Want of memory is the one other answer.
 pub fn completes_again<D: Disk>()
-    ensures { ResumeCompletes D.text D.meter D.image }
+    ensures { ResumeCompletes ⟦<D as Disk>⟧ }
 {
     rz_report::completes_again();
 }
@@ -18,7 +18,7 @@ pub fn completes_again<D: Disk>()
 /// record, and give of it, are the projections of one block: of the text with which the write of the
 /// published stamp began. So no line of a scrub then says that a record is altered.
 pub fn untouched<D: Disk>()
-    ensures { IsUntouchedLaw D.tells D.text D.image }
+    ensures { IsUntouchedLaw ⟦<D as Disk>⟧ }
 {
     rz_log_laws::laid();
     rz_node_laws::fetched::<D>();

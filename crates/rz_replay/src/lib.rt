@@ -11,10 +11,11 @@
 //! It does not say what a real file or a terminal holds, or that memory is there, whose want is status 70.
 //! [`memory`] and [`files`] make the disks of a play.
 //!
-//! In reading order: `replaying`, `laws`, `migrating`, `disks`.
+//! In reading order: `replaying`, `drivers`, `laws`, `migrating`, `disks`.
 #![tactic(auto)]
 
 mod disks;
+mod drivers;
 mod laws;
 mod migrating;
 mod replaying;

@@ -31,7 +31,7 @@ pub fn carry<I: Source, O: Sink, D: Disk>(
     output: &mut O,
     disks: &mut Vec<D>,
 ) -> u8
-    ensures { IsMigrationTold D.tells D.text D.image D.meter sid (record { before = I.left input.old; after = I.left input.new; old = I.faults input.old; new = I.faults input.new }) disks.old.items disks.new.items (record { before = O.taken output.old; after = O.taken output.new; old = O.faults output.old; new = O.faults output.new }) result }
+    ensures { IsMigrationTold ⟦<D as Disk>⟧ sid (record { before = I.left input.old; after = I.left input.new; old = I.faults input.old; new = I.faults input.new }) disks.old.items disks.new.items (record { before = O.taken output.old; after = O.taken output.new; old = O.faults output.old; new = O.faults output.new }) result }
 {
     let outcome = migrate(alloc, sid, input, disks);
     tell(alloc, &outcome, output)

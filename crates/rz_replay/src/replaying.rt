@@ -1,22 +1,20 @@
 //! What words and an input ask for, done over disks that are lent to it.
 
-ghost use Rattle.std.specs.Prelude.{◌≡◌, ◌≢◌, ◌+◌, ◌-◌, [], IsSome, MatchResult, Ok, length, map, reverse, string_bytes};
+ghost use Rattle.std.specs.Prelude.{◌≡◌, ◌-◌, [], IsSome, MatchResult, length, map, reverse, string_bytes};
 ghost use Rattle.rz_request.specs.Line.{meaning};
-ghost use Rattle.rz_request.specs.Requests.{disks_for, nodes_in};
-ghost use Rattle.rz_request.specs.declared.wishes.Wish.TheVariants.{First, Again};
+ghost use Rattle.rz_request.specs.Requests.{disks_for};
 ghost use Rattle.rz_play_laws.specs.Runs.{IsScript};
-ghost use Rattle.rz_replay.specs.Replays.{FailsAgain, PlaysReplay, PlaysRequest, Replays, old_node_of};
+ghost use Rattle.rz_replay.specs.Replays.{PlaysReplay, PlaysRequest, Replays, old_node_of};
 
+use crate::drivers::driver_for;
 use crate::laws::untouched;
 use crate::migrating::carry;
 use rz_disk::Disk;
-use rz_driver::Driver;
 use rz_events::Event;
 use rz_link::Link;
-use rz_nodes::OpenRefusal;
 use rz_ports::{Sink, Source};
-use rz_report::{begins, perform, refuse, refuse_disks, stop};
-use rz_request::{Command, Refusal, Request, Status, Wish, WordsError, request, wanted};
+use rz_report::{begins, perform, stop};
+use rz_request::{Command, Request, Status, WordsError, request, wanted};
 use rz_script::Script;
 use std::alloc::{AllocError, Global};
 use std::mem;
@@ -54,148 +52,12 @@ fn old_node(alloc: Global, words: &[String]) -> Result<Option<u16>, AllocError>
     }
 }
 
-/// Plays a request that wants no journal over disks, and writes what is to be told of it. The disks are back
-/// afterwards.
-fn play_plain<D: Disk, L: Link, O: Sink>(
-    alloc: Global,
-    request: &Request,
-    disks: &mut Vec<D>,
-    link: &mut L,
-    output: &mut O,
-) -> Played
-    requires plain { request.now.wish ≢ First }
-    requires anew { request.now.wish ≢ Again }
-    requires count { length disks.old.items ≡ nodes_in request.now.script }
-    ensures { PlaysRequest D.tells D.text D.meter D.image request.now disks.old.items disks.new.items (L.lost link.new - L.lost link.old) (record { before = O.taken output.old; after = O.taken output.new; old = O.faults output.old; new = O.faults output.new }) result.status (reverse result.log.items) }
-{
-    untouched::<D>();
-    let volume = request.script.volume();
-    let _nodes = volume.node_count();
-    let lent = mem::replace(disks, Vec::new(alloc));
-    match Driver::new(alloc, volume, lent) {
-        Ok(mut driver) => {
-            let status = perform(
-                alloc,
-                request.wish,
-                &request.script,
-                &mut driver,
-                link,
-                output,
-            );
-            let (log, back) = driver.close();
-            *disks = back;
-            Played { status, log }
-        }
-        Err((back, fault)) => {
-            *disks = back;
-            let status = refuse_disks(alloc, fault, output);
-            unplayed(alloc, status)
-        }
-    }
-}
-
-/// Plays a request over disks of which the last is formatted for a journal, and writes what is to be told of
-/// it. The disks are back afterwards.
-fn play_first<D: Disk, L: Link, O: Sink>(
-    alloc: Global,
-    request: &Request,
-    disks: &mut Vec<D>,
-    link: &mut L,
-    output: &mut O,
-) -> Played
-    requires first { request.now.wish ≡ First }
-    requires count { length disks.old.items ≡ nodes_in request.now.script + 1 }
-    ensures { PlaysRequest D.tells D.text D.meter D.image request.now disks.old.items disks.new.items (L.lost link.new - L.lost link.old) (record { before = O.taken output.old; after = O.taken output.new; old = O.faults output.old; new = O.faults output.new }) result.status (reverse result.log.items) }
-{
-    rz_core::one_run();
-    untouched::<D>();
-    let volume = request.script.volume();
-    let _nodes = volume.node_count();
-    let lent = mem::replace(disks, Vec::new(alloc));
-    match Driver::first(alloc, volume, lent) {
-        Ok(mut driver) => {
-            let status = perform(
-                alloc,
-                request.wish,
-                &request.script,
-                &mut driver,
-                link,
-                output,
-            );
-            let (log, back) = driver.close();
-            *disks = back;
-            Played { status, log }
-        }
-        Err((back, fault)) => {
-            *disks = back;
-            let status = refuse_disks(alloc, fault, output);
-            unplayed(alloc, status)
-        }
-    }
-}
-
-/// Writes why no driver went on over disks, and gives the status.
-fn refuse_opening<O: Sink>(alloc: Global, why: OpenRefusal, output: &mut O) -> u8
-    ensures { FailsAgain why (record { before = O.taken output.old; after = O.taken output.new; old = O.faults output.old; new = O.faults output.new }) result }
-{
-    match why {
-        OpenRefusal::NoMemory => Status::NO_MEMORY,
-        OpenRefusal::Open { index, cause } => {
-            refuse(alloc, &Refusal::Open { index, cause }, output)
-        }
-    }
-}
-
 /// A script keeps the rules of its volume, and its lines the limits.
 fn keeps_rules(script: &Script)
     ensures { IsScript script.now.volume script.now.lines }
 {
     let _nodes = script.volume().node_count();
     let _lines = script.lines();
-}
-
-/// Goes on with a request over the disks that an earlier play left, that of its journal last, and writes what
-/// is to be told of it. The disks are back afterwards.
-fn play_again<D: Disk, L: Link, O: Sink>(
-    alloc: Global,
-    request: &Request,
-    disks: &mut Vec<D>,
-    link: &mut L,
-    output: &mut O,
-) -> Played
-    requires again { request.now.wish ≡ Again }
-    requires count { length disks.old.items ≡ nodes_in request.now.script + 1 }
-    ensures { PlaysRequest D.tells D.text D.meter D.image request.now disks.old.items disks.new.items (L.lost link.new - L.lost link.old) (record { before = O.taken output.old; after = O.taken output.new; old = O.faults output.old; new = O.faults output.new }) result.status (reverse result.log.items) }
-{
-    untouched::<D>();
-    begins();
-    rz_restart_laws::restarting();
-    rz_restart_laws::afterwards();
-    rz_play_locks::after();
-    rz_core::next_run();
-    keeps_rules(&request.script);
-    let volume = request.script.volume();
-    let lent = mem::replace(disks, Vec::new(alloc));
-    match Driver::again(alloc, volume, lent) {
-        Ok(mut driver) => {
-            let status = perform(
-                alloc,
-                request.wish,
-                &request.script,
-                &mut driver,
-                link,
-                output,
-            );
-            let (log, back) = driver.close();
-            *disks = back;
-            Played { status, log }
-        }
-        Err((back, why)) => {
-            *disks = back;
-            let status = refuse_opening(alloc, why, output);
-            unplayed(alloc, status)
-        }
-    }
 }
 
 /// Plays a request over the disks that it needs, and writes what is to be told of it. The disks are back
@@ -208,14 +70,36 @@ fn play_request<D: Disk, L: Link, O: Sink>(
     output: &mut O,
 ) -> Played
     requires { length disks.old.items ≡ disks_for request.now.wish request.now.script }
-    ensures { PlaysRequest D.tells D.text D.meter D.image request.now disks.old.items disks.new.items (L.lost link.new - L.lost link.old) (record { before = O.taken output.old; after = O.taken output.new; old = O.faults output.old; new = O.faults output.new }) result.status (reverse result.log.items) }
+    ensures { PlaysRequest ⟦<D as Disk>⟧ request.now disks.old.items disks.new.items (L.lost link.new - L.lost link.old) (record { before = O.taken output.old; after = O.taken output.new; old = O.faults output.old; new = O.faults output.new }) result.status (reverse result.log.items) }
 {
-    match request.wish {
-        Wish::First => play_first(alloc, request, disks, link, output),
-        Wish::Again => play_again(alloc, request, disks, link, output),
-        Wish::Replay => play_plain(alloc, request, disks, link, output),
-        Wish::Scrub => play_plain(alloc, request, disks, link, output),
-        Wish::Load { .. } => play_plain(alloc, request, disks, link, output),
+    untouched::<D>();
+    begins();
+    rz_restart_laws::restarting();
+    rz_restart_laws::afterwards();
+    rz_play_locks::after();
+    rz_core::one_run();
+    rz_core::next_run();
+    keeps_rules(&request.script);
+    let lent = mem::replace(disks, Vec::new(alloc));
+    match driver_for(alloc, request, lent) {
+        Ok(mut driver) => {
+            let status = perform(
+                alloc,
+                request.wish,
+                &request.script,
+                &mut driver,
+                link,
+                output,
+            );
+            let (log, back) = driver.close();
+            *disks = back;
+            Played { status, log }
+        }
+        Err((back, unmade)) => {
+            *disks = back;
+            let status = stop(alloc, &unmade, output);
+            unplayed(alloc, status)
+        }
     }
 }
 
@@ -230,7 +114,7 @@ fn play_words<I: Source, O: Sink, D: Disk, L: Link>(
     disks: &mut Vec<D>,
     link: &mut L,
 ) -> Played
-    ensures { PlaysReplay D.tells D.text D.meter D.image (meaning (map string_bytes words.now)) (record { before = I.left input.old; after = I.left input.new; old = I.faults input.old; new = I.faults input.new }) disks.old.items disks.new.items (L.lost link.new - L.lost link.old) (record { before = O.taken output.old; after = O.taken output.new; old = O.faults output.old; new = O.faults output.new }) result.status (reverse result.log.items) }
+    ensures { PlaysReplay ⟦<D as Disk>⟧ (meaning (map string_bytes words.now)) (record { before = I.left input.old; after = I.left input.new; old = I.faults input.old; new = I.faults input.new }) disks.old.items disks.new.items (L.lost link.new - L.lost link.old) (record { before = O.taken output.old; after = O.taken output.new; old = O.faults output.old; new = O.faults output.new }) result.status (reverse result.log.items) }
 {
     let count = disks.len() as u64;
     match request(alloc, words, input, count) {
@@ -252,7 +136,7 @@ pub fn replay<I: Source, O: Sink, D: Disk, L: Link>(
     disks: &mut Vec<D>,
     link: &mut L,
 ) -> Played
-    ensures { Replays D.tells D.text D.meter D.image (meaning (map string_bytes words.now)) (record { before = I.left input.old; after = I.left input.new; old = I.faults input.old; new = I.faults input.new }) disks.old.items disks.new.items (L.lost link.new - L.lost link.old) (record { before = O.taken output.old; after = O.taken output.new; old = O.faults output.old; new = O.faults output.new }) result.status (reverse result.log.items) }
+    ensures { Replays ⟦<D as Disk>⟧ (meaning (map string_bytes words.now)) (record { before = I.left input.old; after = I.left input.new; old = I.faults input.old; new = I.faults input.new }) disks.old.items disks.new.items (L.lost link.new - L.lost link.old) (record { before = O.taken output.old; after = O.taken output.new; old = O.faults output.old; new = O.faults output.new }) result.status (reverse result.log.items) }
 {
     match old_node(alloc, words) {
         Ok(Some(sid)) => {

@@ -1,9 +1,10 @@
 -- What a migration comes to.
-use Rattle.std.specs.Prelude.{ℕ, ◌≡◌, ◌≢◌, ◌⊎◌, ◌++◌, Bool, IsTrue, List, [], ◌∷◌, Option, Result, Ok, Err, codes, length}
+use Rattle.std.specs.Prelude.{ℕ, ◌≡◌, ◌≢◌, ◌⊎◌, ◌++◌, IsTrue, List, [], ◌∷◌, Option, Result, Ok, Err, codes, length}
 use Rattle.std.specs.Fmt.{decimal}
 use Rattle.mj_angles.specs.Layout.{bsize_of}
 use Rattle.rz_disk.specs.Images.{Within}
-use Rattle.rz_disk.specs.Meter.{Meter, Lasts, Rises, faults}
+use Rattle.rz_disk.specs.Meter.{Lasts, Rises, faults}
+use Rattle.rz_disk.specs.declared.disk.Disk.{Ghosts}
 use Rattle.rz_events.specs.declared.records.Head.{Head}
 use Rattle.rz_events.specs.declared.nodes.OpenFault.{OpenFault}
 use Rattle.rz_events.specs.declared.nodes.OpenFault.TheVariants.{DiskFault}
@@ -41,12 +42,12 @@ Stopped carrying.New stop = stop ≡ stops.Refused (refusals.Disk 1)
 
 -- The old disk is as it was, and each image of the new one is one from before, or its header is shut, or it stands for the fence and
 -- the records of the old one.
-pub record AreCarriedOver {D : Type 0} (tells : Bool) (text : D → List ℕ) (image : D → List ℕ → Type 0) (meter : D → Meter) (g : Geometry) (old old' new new' : D) : Type 0 where
-  pub same : text old' ≡ text old
-  pub old_images : Within (image old) (image old')
-  pub new_images : IsTrue tells → (t : List ℕ) → image new' t → image new t ⊎ IsShut t ⊎ CarriesOver g (text old) t
-  pub old_lasts : Lasts (meter old) (meter old')
-  pub new_lasts : Lasts (meter new) (meter new')
+pub record AreCarriedOver {D : Type 0} (G : Ghosts D) (g : Geometry) (old old' new new' : D) : Type 0 where
+  pub same : G.text old' ≡ G.text old
+  pub old_images : Within (G.image old) (G.image old')
+  pub new_images : IsTrue G.tells → (t : List ℕ) → G.image new' t → G.image new t ⊎ IsShut t ⊎ CarriesOver g (G.text old) t
+  pub old_lasts : Lasts (G.meter old) (G.meter old')
+  pub new_lasts : Lasts (G.meter new) (G.meter new')
 
 -- Both texts stand for the same records with this fence, the new one in cells with these heads.
 pub record IsCarried (g : Geometry) (fence : ℕ) (old new : List ℕ) (heads : List (Option Head)) : Type 0 where
@@ -54,35 +55,34 @@ pub record IsCarried (g : Geometry) (fence : ℕ) (old new : List ℕ) (heads : 
   pub same : (held : Records) × OldStandsFor g fence old held × StandsFor g fence new held
 
 -- a fault that an opening of the old disk found, other than a failed call, before the new one was called
-abbrev pub IsOldDiskRefused : {D : Type 0} → Bool → (D → List ℕ) → Geometry → D → D → D → ℕ → Type 0
-IsOldDiskRefused tells text g old new new' cause =
-    (f : OpenFault) × (cause ≡ number_of f) × (f ≢ DiskFault) × (IsTrue tells → OldRefuses g (text old) f)
-    × (NotSize f ⊎ OldRefuses g (text old) f) × (new' ≡ new)
+abbrev pub IsOldDiskRefused : {D : Type 0} → Ghosts D → Geometry → D → D → D → ℕ → Type 0
+IsOldDiskRefused G g old new new' cause =
+    (f : OpenFault) × (cause ≡ number_of f) × (f ≢ DiskFault) × (IsTrue G.tells → OldRefuses g (G.text old) f)
+    × (NotSize f ⊎ OldRefuses g (G.text old) f) × (new' ≡ new)
 
 -- What is told: the fence and the number of the records that were carried over; or a disk of which the faults rose; or a fault of
 -- the old disk. Want of memory says nothing.
-abbrev pub TellsCarried : {D : Type 0} → Bool → (D → List ℕ) → (D → List ℕ → Type 0) → (D → Meter) → Geometry → D → D → D → D → Result Migrated Stop → Type 0
-TellsCarried tells text image meter g old old' new new' (Ok m) =
+abbrev pub TellsCarried : {D : Type 0} → Ghosts D → Geometry → D → D → D → D → Result Migrated Stop → Type 0
+TellsCarried G g old old' new new' (Ok m) =
     (heads : List (Option Head)) × (m.records ≡ count_held heads)
-    × (IsTrue tells → IsCarried g m.fence (text old) (text new') heads × ((t : List ℕ) → image new' t → CarriesOver g (text old) t))
-TellsCarried tells text image meter g old old' new new' (Err stops.NoMemory) = Unit {0}
-TellsCarried tells text image meter g old old' new new' (Err (stops.Refused (refusals.Disk index))) =
-    ((index ≡ 0) × Rises (faults (meter old)) (faults (meter old'))) ⊎ ((index ≡ 1) × Rises (faults (meter new)) (faults (meter new')))
-TellsCarried tells text image meter g old old' new new' (Err (stops.Refused (refusals.Old cause))) = IsOldDiskRefused tells text g old new new' cause
-TellsCarried tells text image meter g old old' new new' (Err _) = ⊥
+    × (IsTrue G.tells → IsCarried g m.fence (G.text old) (G.text new') heads × ((t : List ℕ) → G.image new' t → CarriesOver g (G.text old) t))
+TellsCarried G g old old' new new' (Err stops.NoMemory) = Unit {0}
+TellsCarried G g old old' new new' (Err (stops.Refused (refusals.Disk index))) =
+    ((index ≡ 0) × Rises (faults (G.meter old)) (faults (G.meter old'))) ⊎ ((index ≡ 1) × Rises (faults (G.meter new)) (faults (G.meter new')))
+TellsCarried G g old old' new new' (Err (stops.Refused (refusals.Old cause))) = IsOldDiskRefused G g old new new' cause
+TellsCarried G g old old' new new' (Err _) = ⊥
 
-abbrev pub Carries : {D : Type 0} → Bool → (D → List ℕ) → (D → List ℕ → Type 0) → (D → Meter) → Geometry → D → D → D → D → Result Migrated Stop → Type 0
-Carries tells text image meter g old old' new new' result =
-    AreCarriedOver tells text image meter g old old' new new' × TellsCarried tells text image meter g old old' new new' result
+abbrev pub Carries : {D : Type 0} → Ghosts D → Geometry → D → D → D → D → Result Migrated Stop → Type 0
+Carries G g old old' new new' result = AreCarriedOver G g old old' new new' × TellsCarried G g old old' new new' result
 
 -- what comes of the disks for a node, or where there is none
-abbrev pub FollowsOldDisk : {D : Type 0} → Bool → (D → List ℕ) → (D → List ℕ → Type 0) → (D → Meter) → Result OldNode Stop → List D → List D → Result Migrated Stop → Type 0
-FollowsOldDisk {D} tells text image meter (Ok o) disks disks' result =
+abbrev pub FollowsOldDisk : {D : Type 0} → Ghosts D → Result OldNode Stop → List D → List D → Result Migrated Stop → Type 0
+FollowsOldDisk {D} G (Ok o) disks disks' result =
     (old : D) × (new : D) × (old' : D) × (new' : D) × (disks ≡ old ∷ new ∷ []) × (disks' ≡ old' ∷ new' ∷ [])
-    × Carries tells text image meter (geometry_of o) old old' new new' result
-FollowsOldDisk tells text image meter (Err stop) disks disks' result = (disks' ≡ disks) × (result ≡ Err stop)
+    × Carries G (geometry_of o) old old' new new' result
+FollowsOldDisk G (Err stop) disks disks' result = (disks' ≡ disks) × (result ≡ Err stop)
 
 -- What a migration of node `sid` comes to: what the source asks for of so many disks is answered, and what comes of them.
-abbrev pub Migrates : {D : Type 0} → Bool → (D → List ℕ) → (D → List ℕ → Type 0) → (D → Meter) → ℕ → Reading → List D → List D → Result Migrated Stop → Type 0
-Migrates tells text image meter sid source disks disks' result =
-    (r : Result OldNode Stop) × ReadsNode source sid (length disks) r × FollowsOldDisk tells text image meter r disks disks' result
+abbrev pub Migrates : {D : Type 0} → Ghosts D → ℕ → Reading → List D → List D → Result Migrated Stop → Type 0
+Migrates G sid source disks disks' result =
+    (r : Result OldNode Stop) × ReadsNode source sid (length disks) r × FollowsOldDisk G r disks disks' result

@@ -34,7 +34,7 @@ pub fn carry<D: Disk>(
 ) -> (D, Result<Migrated, Stop>)
     requires geometry { IsGeometry geometry }
     requires small { bsize_of geometry.layout ≡ 0 }
-    ensures { Carries D.tells D.text D.image D.meter geometry old.old old.new new result.0 result.1 }
+    ensures { Carries ⟦<D as Disk>⟧ geometry old.old old.new new result.0 result.1 }
 {
     match Cells::migrate(alloc, geometry, old, new) {
         Ok(cells) => {

@@ -28,7 +28,7 @@ fn carry_in<D: Disk>(alloc: Global, node: &OldNode, disks: &mut Vec<D>) -> Resul
     requires two { length disks.old.items ≡ 2 }
     requires rules { IsNode node.now.node }
     requires small { bsize_of node.now.layout ≡ 0 }
-    ensures { FollowsOldDisk D.tells D.text D.image D.meter (Ok node.now) disks.old.items disks.new.items result }
+    ensures { FollowsOldDisk ⟦<D as Disk>⟧ (Ok node.now) disks.old.items disks.new.items result }
 {
     let Some(new) = disks.pop() else {
         unreachable!()
@@ -48,7 +48,7 @@ pub fn migrate<I: Source, D: Disk>(
     input: &mut I,
     disks: &mut Vec<D>,
 ) -> Result<Migrated, Stop>
-    ensures { Migrates D.tells D.text D.image D.meter sid (record { before = I.left input.old; after = I.left input.new; old = I.faults input.old; new = I.faults input.new }) disks.old.items disks.new.items result }
+    ensures { Migrates ⟦<D as Disk>⟧ sid (record { before = I.left input.old; after = I.left input.new; old = I.faults input.old; new = I.faults input.new }) disks.old.items disks.new.items result }
 {
     match migration(alloc, sid, input, disks.len() as u64) {
         Ok(node) => carry_in(alloc, &node, disks),

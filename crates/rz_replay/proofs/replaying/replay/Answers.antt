@@ -19,6 +19,6 @@ returns-in-Err g c =
       old = g.O.Sink.faults c.args.output.now;
       new = g.O.Sink.faults c.args.output.now;
     } in
-    wanting g.D.Disk.tells g.D.Disk.text g.D.Disk.meter g.D.Disk.image (meaning (map string_bytes c.args.words.now)) source c.args.disks.now.items
+    wanting g.D.Disk (meaning (map string_bytes c.args.words.now)) source c.args.disks.now.items
     (g.L.Link.lost c.args.link.now - g.L.Link.lost c.args.link.now) sink c.unplayed-in-Err.result.status (reverse c.unplayed-in-Err.result.log.items) c.in-Err.ensures (refl, refl)
     (c.unplayed-in-Err.ensures.status, refl) (ap reverse c.unplayed-in-Err.ensures.log)
