@@ -22,7 +22,7 @@ use Rattle.rz_node_model.specs.NodeEvents.{node_event}
 use Rattle.rz_node_model.specs.States.{NodeState}
 use Rattle.rz_cells_slots.specs.declared.geometry.Geometry.{Geometry}
 use Rattle.rz_node.specs.Fetched.{IfHeld}
-use Rattle.rz_node.specs.Leaves.{Leaves}
+use Rattle.rz_node.specs.Leaves.{LeavesDisk}
 use Rattle.rz_operation_model.specs.Work.{Work, Over}
 use Rattle.rz_operation_model.specs.Ask.{Ask, AskNode, ask_of}
 use Rattle.rz_operation_model.specs.Steps.{Answered, told}
@@ -77,7 +77,7 @@ module _ {D : Type 0} (text : D → List ℕ) (image : D → List ℕ → Type 0
   )
 
   gave : (key : Key) (position stamp : ℕ) (a : FetchAnswer) → IsNodeAnswer cells s (ask.Fetch key position stamp) (answer.Fetch a)
-      → Leaves g s (ask.Fetch key position stamp) (answer.Fetch a) handed bins (text before) (text after) (image before) (image after)
+      → LeavesDisk g s (ask.Fetch key position stamp) (answer.Fetch a) handed bins (text before) (text after) (image before) (image after)
       → IfHeld a (λ r. (r.stamp ≡ stamp) × IsReadBack v f n key r handed bins)
   gave key position stamp (fetch.Held r) is leaves = (
     found-stamp stamp (held_of s.held key) r (of-up s.phase (found stamp (held_of s.held key)) r (sym is)),

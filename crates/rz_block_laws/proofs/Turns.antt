@@ -15,7 +15,7 @@ use Rattle.rz_node_model.specs.Answers.{IsNodeAnswer}
 use Rattle.rz_node_model.specs.States.{NodeState}
 use Rattle.rz_node_model.specs.Afterwards.{after_answer}
 use Rattle.rz_cells_slots.specs.declared.geometry.Geometry.{Geometry}
-use Rattle.rz_node.specs.Leaves.{Leaves}
+use Rattle.rz_node.specs.Leaves.{LeavesDisk}
 use Rattle.rz_operation_model.specs.Ask.{Ask}
 use Rattle.rz_operation.specs.Answers.{IsAnswer, IsAnswerTo}
 use Rattle.rz_operation.specs.Machine.{Machine}
@@ -44,7 +44,7 @@ module _ {D : Type 0} (text : D → List ℕ) (image : D → List ℕ → Type 0
     (actor : IsTrueActor v f by m) (imaged : IsImaged v f n s g (image before)) where
   -- a record came of a fetch
   read-back : (question : NodeAsk) (r : Held) → IsNodeAnswer cells s question (answer.Fetch (fetch.Held r))
-      → Leaves g s question (answer.Fetch (fetch.Held r)) handed bins (text before) (text after) (image before) (image after)
+      → LeavesDisk g s question (answer.Fetch (fetch.Held r)) handed bins (text before) (text after) (image before) (image after)
       → (key : Key) × IsReadBack v f n key r handed bins
   read-back (ask.Fetch key position stamp) r is leaves = (key, read v f n cells g s key position stamp r handed bins before after is leaves imaged)
   read-back question r is leaves = absurd is
@@ -54,7 +54,7 @@ module _ {D : Type 0} (text : D → List ℕ) (image : D → List ℕ → Type 0
       let of_actor = (at-node v m.layout f actor.own actor.run by actor.number m.work n question proper actor.true_to.layout_is actor.true_to.own actor.way sent.asked).2 in
       let back : (r : Held) → given ≡ answer.Fetch (fetch.Held r) → (key : Key) × IsReadBack v f n key r handed bins = λ r same.
       read-back question r (subst (IsNodeAnswer cells s question) same sent.given_is)
-      (subst (λ (a : NodeAnswer). Leaves g s question a handed bins (text before) (text after) (image before) (image after)) same sent.leaves)
+      (subst (λ (a : NodeAnswer). LeavesDisk g s question a handed bins (text before) (text after) (image before) (image after)) same sent.leaves)
       in
       let fits = taken f m n cells s question given handed bins actor.true_to.layout_is sent.asked of_actor sent.given_is back in
       subst (λ (y : Layout). IsAnswerTo y question given) actor.true_to.layout_is (subst (λ (a : Ask). IsAnswer m.layout a given) sent.asked fits)

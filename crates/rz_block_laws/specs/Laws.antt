@@ -23,7 +23,7 @@ use Rattle.rz_node_model.specs.Afterwards.{after_answer}
 use Rattle.rz_node_model.specs.NodeEvents.{node_event}
 use Rattle.rz_node_model.specs.States.{NodeState}
 use Rattle.rz_cells_slots.specs.declared.geometry.Geometry.{Geometry}
-use Rattle.rz_node.specs.Leaves.{Leaves}
+use Rattle.rz_node.specs.Leaves.{LeavesDisk}
 use Rattle.rz_node.specs.Fetched.{IfHeld}
 use Rattle.rz_operation_model.specs.Ask.{AskNode, Say, SayGot, SayLeft, ask_of}
 use Rattle.rz_operation_model.specs.Steps.{Told, Answered, begun, told}
@@ -102,7 +102,7 @@ pub record IsMessage {D : Type 0} (text : D → List ℕ) (image : D → List �
   pub asked : ask_of m.layout m.work ≡ AskNode n question
   pub handed_are : HasBinsFor question → AreBinsFor m question handed
   pub given_is : IsNodeAnswer cells s question given
-  pub leaves : Leaves g s question given handed bins (text before) (text after) (image before) (image after)
+  pub leaves : LeavesDisk g s question given handed bins (text before) (text after) (image before) (image after)
 
 -- The machine was told the answer, which has this event.
 pub record IsAnswerTold (by : Actor) (m : Machine) (n : ℕ) (question : NodeAsk) (given : NodeAnswer) (bins : List ℕ) (x : Event) (new : Machine) : Type 0 where

@@ -37,7 +37,7 @@ use Rattle.rz_operation_model.specs.Steps.{Told, Replied, Answered, told, after_
 use Rattle.rz_operation_model.specs.Turns.{IsStep, IsExportStep, IsNodeStep, Through, ReplyLost, RequestLost}
 use Rattle.rz_core.proofs.NodeSteps.{the_some}
 use Rattle.rz_contents.specs.Model.{changes, IsStill}
-use Rattle.rz_contents.specs.Putting.{Starts, Goes, HasBegun, IsPutStage, IsPut, PutsOnce}
+use Rattle.rz_contents.specs.Putting.{Starts, Goes, HasBegun, IsPutStage, IsPutCourse, PutsOnce}
 
 begun-more : (ys xs : List Event) (by : Actor) (key : Key) (stamp : ℕ) (text : List ℕ) → HasBegun xs by key stamp text → HasBegun (ys ++ xs) by key stamp text
 begun-more [] xs by key stamp text b = b
@@ -51,16 +51,16 @@ export-step by c G step t ys s = subst (λ z. G z ys) (sym s.2) (subst (λ zs. G
 -- The file is opened.
 
 opened : (layout : Layout) (by : Actor) (block : ℕ) (text : List ℕ) (xs : List Event) (r : TreeReply) → IsStill xs
-    → IsPut by text xs (after_open layout (OnBlock (PutBlock block text)) r)
+    → IsPutCourse by text xs (after_open layout (OnBlock (PutBlock block text)) r)
 opened layout by block text xs (tree.File info) still = (refl, refl, still)
 opened layout by block text xs (tree.Refused fault) still = still
 opened layout by block text xs _ still = tt
 
 open-step : (layout : Layout) (by : Actor) (path : List ℕ) (block : ℕ) (text : List ℕ) (xs : List Event) → IsStill xs → (r : Reply) (x : Event)
     → export_event by (call.Tree (calls.OpenFile path)) r ≡ Some x
-    → IsPut by text (x ∷ xs) (told layout (Opening path (OnBlock (PutBlock block text))) (Replied r))
+    → IsPutCourse by text (x ∷ xs) (told layout (Opening path (OnBlock (PutBlock block text))) (Replied r))
 open-step layout by path block text xs still (reply.Tree r) x is =
-    subst (λ y. IsPut by text (y ∷ xs) (told layout (Opening path (OnBlock (PutBlock block text))) (Replied (reply.Tree r)))) (the_some _ x is)
+    subst (λ y. IsPutCourse by text (y ∷ xs) (told layout (Opening path (OnBlock (PutBlock block text))) (Replied (reply.Tree r)))) (the_some _ x is)
     (opened layout by block text (e.Meta by (calls.OpenFile path) r ∷ xs) r (refl, still))
 open-step layout by path block text xs still (_) x is = cc
 
@@ -71,7 +71,7 @@ module _ (by : Actor) (outer layout : Layout) (key : Key) (places : List ℕ) (s
   at stage = record { layout = layout; key = key; places = places; length = size; stage = stage }
 
   abbrev Next : WriteStage → Told → List Event → Type 0
-  Next stage t ys = IsPut by text (ys ++ xs) (told outer (Writing Alone text (at stage)) t)
+  Next stage t ys = IsPutCourse by text (ys ++ xs) (told outer (Writing Alone text (at stage)) t)
 
   begin-step : IsStill xs → (r : Reply) (x : Event) → begin_event by (call.Begin key text) r ≡ Some x → Next writing.Beginning (Replied r) (x ∷ [])
   begin-step still (reply.Begun stamp base) x is =
@@ -148,16 +148,16 @@ module _ (by : Actor) (outer layout : Layout) (key : Key) (places : List ℕ) (s
       go false step' = export-step by (call.Publish key t.stamp (mask_of t.why) size) (λ u us. Next (writing.Sending t) u us) (publish-step t is.0 is.1 size) t' ys step'
   stage-step number (writing.Ended end) is t' ys step = subst (λ u. Next (writing.Ended end) u ys) (sym step.1) tt
 
-turn : (layout : Layout) (by : Actor) (number : ℕ) (text : List ℕ) (xs : List Event) (work : Work) → IsPut by text xs work
-    → (t : Told) (ys : List Event) → IsStep by number (ask_of layout work) t ys → IsPut by text (ys ++ xs) (told layout work t)
+turn : (layout : Layout) (by : Actor) (number : ℕ) (text : List ℕ) (xs : List Event) (work : Work) → IsPutCourse by text xs work
+    → (t : Told) (ys : List Event) → IsStep by number (ask_of layout work) t ys → IsPutCourse by text (ys ++ xs) (told layout work t)
 turn layout by number text xs (Opening path plan) is t ys step =
-    subst (λ p. IsPut by text (ys ++ xs) (told layout (Opening path p) t)) (sym is.1.1)
-    (export-step by (call.Tree (calls.OpenFile path)) (λ u us. IsPut by text (us ++ xs) (told layout (Opening path (OnBlock (PutBlock is.1.0 text))) u))
+    subst (λ p. IsPutCourse by text (ys ++ xs) (told layout (Opening path p) t)) (sym is.1.1)
+    (export-step by (call.Tree (calls.OpenFile path)) (λ u us. IsPutCourse by text (us ++ xs) (told layout (Opening path (OnBlock (PutBlock is.1.0 text))) u))
     (open-step layout by path is.1.0 text xs is.0) t ys step)
 turn layout by number text xs (Writing course written s) is t ys step =
-    subst (λ w. IsStep by number (ask_of layout w) t ys → IsPut by text (ys ++ xs) (told layout w t)) (sym (ap (λ c. Writing c written s) is.0 ∙ ap (λ w. Writing Alone w s) is.1))
+    subst (λ w. IsStep by number (ask_of layout w) t ys → IsPutCourse by text (ys ++ xs) (told layout w t)) (sym (ap (λ c. Writing c written s) is.0 ∙ ap (λ w. Writing Alone w s) is.1))
     (stage-step by layout s.layout s.key s.places s.length text xs number s.stage is.2 t ys) step
-turn layout by number text xs (Ending a) still t ys step = subst (λ u. IsPut by text (ys ++ xs) (told layout (Ending a) u)) (sym step.1) tt
+turn layout by number text xs (Ending a) still t ys step = subst (λ u. IsPutCourse by text (ys ++ xs) (told layout (Ending a) u)) (sym step.1) tt
 turn layout by number text xs Over is t ys step = absurd step
 turn layout by number text xs (_) is t ys step = absurd is
 

@@ -12,7 +12,7 @@ use Rattle.rz_events.specs.Events.{same_key}
 use Rattle.rz_core.proofs.Stamps.{cases_le, same_key-true, same_key-refl}
 use Rattle.rz_contents.specs.Model.{Model, byte_at, IsSame}
 use Rattle.rz_contents.specs.Putting.{model_put}
-use Rattle.rz_contents.specs.Ranges.{text_at, offset_of, patched, HasBytes, WritesPatch, WritesTogether, bytes_from, ReadsText, ReadsTogether}
+use Rattle.rz_contents.specs.Ranges.{text_at, offset_of, patched, WritesBytes, WritesPatch, WritesTogether, bytes_from, ReadsText, ReadsTogether}
 
 -- ---- texts
 
@@ -165,7 +165,7 @@ module _ (layout : Layout) (m : Model) (stamp mask : ℕ) (key : Key) (from : �
   place-of : (i : ℕ) → i / size ≡ key.block → key.block * size + i % size ≡ i
   place-of i is = ap (λ (b : ℕ). b * size + i % size) (sym is) ∙ div-add-mod' i size
 
-  pub put-bytes : HasBytes layout m key.fid (offset_of layout key from) bytes new
+  pub put-bytes : WritesBytes layout m key.fid (offset_of layout key from) bytes new
   put-bytes = record {
     these = these;
     before = λ i low. other-byte i (λ is. (let place = place-of i is in patched-low (text_at m key) from bytes (i % size) (omega (arith, place, low))));
@@ -173,7 +173,7 @@ module _ (layout : Layout) (m : Model) (stamp mask : ℕ) (key : Key) (from : �
     others = λ k other. block-out layout m stamp mask key made k (λ is. other (ap (λ (z : Key). z.fid) is));
   }
 
-  pub same-bytes : (seen : Model) → IsSame new seen → HasBytes layout m key.fid (offset_of layout key from) bytes seen
+  pub same-bytes : (seen : Model) → IsSame new seen → WritesBytes layout m key.fid (offset_of layout key from) bytes seen
   same-bytes seen same = record {
     these = λ i low. same-byte layout new seen same key.fid (offset_of layout key from + i) ∙ put-bytes.these i low;
     before = λ i low. same-byte layout new seen same key.fid i ∙ put-bytes.before i low;

@@ -10,7 +10,7 @@ use Rattle.rz_operation_model.specs.Work.{Work, OnBlock, PutBlock, GetBlock, Alo
 use Rattle.rz_core.specs.Legal.{IsLegalInRuns}
 use Rattle.rz_export_model.specs.Tree.{Tree}
 use Rattle.rz_contents.specs.Model.{export_at, model_of}
-use Rattle.rz_contents.specs.Putting.{IsPutStage, IsPut}
+use Rattle.rz_contents.specs.Putting.{IsPutStage, IsPutCourse}
 use Rattle.rz_contents.specs.Getting.{IsGet}
 use Rattle.rz_contents.specs.Files.{IsOnBlock, IsPutStageSeen, IsPutSeen, IsPutWatched, IsGetSeen, IsGetWatched}
 use Rattle.rz_contents.proofs.Opened.{loud, leads_to_block}
@@ -25,7 +25,7 @@ module _ (v : Volume) (old xs : List Event) (by : Actor) (text : List ℕ) (lega
   stage s (writing.Sending t) is = still v xs old legal is.0
   stage s (writing.Ended end) is = ended v old xs by s.key text end legal is
 
-  put-seen : (t : Tree) (path : List ℕ) (block : ℕ) (work : Work) → IsOnBlock t path block work → IsPut by text xs work → IsPutSeen v (model_of v old) text (model_of v (xs ++ old)) work
+  put-seen : (t : Tree) (path : List ℕ) (block : ℕ) (work : Work) → IsOnBlock t path block work → IsPutCourse by text xs work → IsPutSeen v (model_of v old) text (model_of v (xs ++ old)) work
   put-seen t path block (Opening p plan) on is = still v xs old legal is.0
   put-seen t path block (Writing course written s) on is = stage s s.stage is.2
   put-seen t path block (Ending a) on is = still v xs old legal is

@@ -48,16 +48,16 @@ IsPutStage by xs key text (writing.Sending t) = IsStill xs × HasBegun xs by key
 IsPutStage by xs key text (writing.Ended end) = IsEnded by xs key text end
 
 -- the events of a put of this text, which has come to this work
-abbrev pub IsPut : Actor → List ℕ → List Event → Work → Type 0
-IsPut by text xs (Opening path plan) = IsStill xs × ((block : ℕ) × (plan ≡ OnBlock (PutBlock block text)))
-IsPut by text xs (Writing course written s) = (course ≡ Alone) × (written ≡ text) × IsPutStage by xs s.key text s.stage
-IsPut by text xs (Ending answer) = IsStill xs
-IsPut by text xs Over = Unit {0}
-IsPut by text xs _ = ⊥
+abbrev pub IsPutCourse : Actor → List ℕ → List Event → Work → Type 0
+IsPutCourse by text xs (Opening path plan) = IsStill xs × ((block : ℕ) × (plan ≡ OnBlock (PutBlock block text)))
+IsPutCourse by text xs (Writing course written s) = (course ≡ Alone) × (written ≡ text) × IsPutStage by xs s.key text s.stage
+IsPutCourse by text xs (Ending answer) = IsStill xs
+IsPutCourse by text xs Over = Unit {0}
+IsPutCourse by text xs _ = ⊥
 
 abbrev pub PutsOnce : Type 0
 PutsOnce = (layout : Layout) (by : Actor) (number : ℕ) (path : List ℕ) (block : ℕ) (text : List ℕ) (xs : List Event) (work : Work)
-    → IsCourseFrom layout by number (Opening path (OnBlock (PutBlock block text))) xs work → IsPut by text xs work
+    → IsCourseFrom layout by number (Opening path (OnBlock (PutBlock block text))) xs work → IsPutCourse by text xs work
 
 -- What a put makes of the blocks, by how it ended: its text is in its block where it was acknowledged.
 abbrev pub blocks_put : WriteEnd → Key → List ℕ → (Key → Option (List ℕ)) → Key → Option (List ℕ)

@@ -22,7 +22,7 @@ abbrev pub patched : List ℕ → ℕ → List ℕ → List ℕ
 patched text from bytes = take from (text ++ replicate from 0) ++ (bytes ++ drop (from + length bytes) text)
 
 -- A file has these bytes from an offset on. No other byte of it was changed, and no block of another file.
-pub record HasBytes (layout : Layout) (old : Model) (fid offset : ℕ) (bytes : List ℕ) (new : Model) : Type 0 where
+pub record WritesBytes (layout : Layout) (old : Model) (fid offset : ℕ) (bytes : List ℕ) (new : Model) : Type 0 where
   pub these : (i : ℕ) → i < length bytes → byte_at layout new fid (offset + i) ≡ slice_index_or bytes i 0
   pub before : (i : ℕ) → i < offset → byte_at layout new fid i ≡ byte_at layout old fid i
   pub behind : (i : ℕ) → offset + length bytes ≤ i → byte_at layout new fid i ≡ byte_at layout old fid i
@@ -32,12 +32,12 @@ pub record HasBytes (layout : Layout) (old : Model) (fid offset : ℕ) (bytes : 
 abbrev pub WritesPatch : Type 0
 WritesPatch = (layout : Layout) (m new : Model) (stamp mask : ℕ) (key : Key) (from : ℕ) (bytes : List ℕ) → from + length bytes ≤ block_bytes_of layout
     → IsSame (model_put layout (write.Acked stamp mask) key (patched (text_at m key) from bytes) m) new
-    → HasBytes layout m key.fid (offset_of layout key from) bytes new
+    → WritesBytes layout m key.fid (offset_of layout key from) bytes new
 
 -- Bytes that are written behind one another are written together.
 abbrev pub WritesTogether : Type 0
-WritesTogether = (layout : Layout) (old mid new : Model) (fid offset : ℕ) (a b : List ℕ) → HasBytes layout old fid offset a mid
-    → HasBytes layout mid fid (offset + length a) b new → HasBytes layout old fid offset (a ++ b) new
+WritesTogether = (layout : Layout) (old mid new : Model) (fid offset : ℕ) (a b : List ℕ) → WritesBytes layout old fid offset a mid
+    → WritesBytes layout mid fid (offset + length a) b new → WritesBytes layout old fid offset (a ++ b) new
 
 -- Reads.
 
@@ -46,15 +46,15 @@ abbrev pub bytes_from : List ℕ → ℕ → ℕ → List ℕ
 bytes_from text from count = take count (drop from (text ++ replicate (from + count) 0))
 
 -- these are the bytes of a file from an offset on
-abbrev pub AreBytes : Layout → Model → ℕ → ℕ → List ℕ → Type 0
-AreBytes layout m fid offset bytes = (i : ℕ) → i < length bytes → slice_index_or bytes i 0 ≡ byte_at layout m fid (offset + i)
+abbrev pub ReadsBytes : Layout → Model → ℕ → ℕ → List ℕ → Type 0
+ReadsBytes layout m fid offset bytes = (i : ℕ) → i < length bytes → slice_index_or bytes i 0 ≡ byte_at layout m fid (offset + i)
 
 -- What a block's text has from a place on are the bytes of its file.
 abbrev pub ReadsText : Type 0
 ReadsText = (layout : Layout) (m : Model) (key : Key) (from count : ℕ) → from + count ≤ block_bytes_of layout
-    → AreBytes layout m key.fid (offset_of layout key from) (bytes_from (text_at m key) from count)
+    → ReadsBytes layout m key.fid (offset_of layout key from) (bytes_from (text_at m key) from count)
 
 -- Bytes that are read behind one another are read together.
 abbrev pub ReadsTogether : Type 0
-ReadsTogether = (layout : Layout) (m : Model) (fid offset : ℕ) (a b : List ℕ) → AreBytes layout m fid offset a
-    → AreBytes layout m fid (offset + length a) b → AreBytes layout m fid offset (a ++ b)
+ReadsTogether = (layout : Layout) (m : Model) (fid offset : ℕ) (a b : List ℕ) → ReadsBytes layout m fid offset a
+    → ReadsBytes layout m fid (offset + length a) b → ReadsBytes layout m fid offset (a ++ b)

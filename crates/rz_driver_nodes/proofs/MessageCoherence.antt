@@ -20,7 +20,7 @@ use Rattle.rz_node_model.specs.States.{NodeState}
 use Rattle.rz_cells_slots.specs.declared.geometry.Geometry.{Geometry}
 use Rattle.rz_node.specs.Fetched.{IsFetchOf}
 use Rattle.rz_node.specs.View.{NodeView}
-use Rattle.rz_node.specs.Leaves.{Leaves}
+use Rattle.rz_node.specs.Leaves.{LeavesDisk}
 use Rattle.rz_core.specs.History.{Facts, facts}
 use Rattle.rz_operation.specs.Answers.{IsWorkAfter, IsAnswerTo, FitsIfEnough}
 use Rattle.rz_operation.specs.Machine.{Machine}
@@ -99,9 +99,9 @@ never-bad v fitting f m hand = go (is_bad (ask_of m.layout m.work)) refl
 
 -- what a node leaves of its disk when it is to keep a record does not depend on the bins afterwards
 pub any-bins : (g : Geometry) (s : NodeState) (question : NodeAsk) (given : NodeAnswer) → IsBinful question → (own handed after after' text text' : List ℕ) (image image' : List ℕ → Type 0) → own ≡ handed
-    → Leaves g s question given own after text text' image image' → Leaves g s question given handed after' text text' image image'
-any-bins g s (ask.Keep head) (answer.Keep a) bins own handed after after' text text' image image' same leaves = subst (λ (bs : List ℕ). Leaves g s (ask.Keep head) (answer.Keep a) bs after' text text' image image') same leaves
-any-bins g s (ask.Refill fence head) (answer.Refill a) bins own handed after after' text text' image image' same leaves = subst (λ (bs : List ℕ). Leaves g s (ask.Refill fence head) (answer.Refill a) bs after' text text' image image') same leaves
+    → LeavesDisk g s question given own after text text' image image' → LeavesDisk g s question given handed after' text text' image image'
+any-bins g s (ask.Keep head) (answer.Keep a) bins own handed after after' text text' image image' same leaves = subst (λ (bs : List ℕ). LeavesDisk g s (ask.Keep head) (answer.Keep a) bs after' text text' image image') same leaves
+any-bins g s (ask.Refill fence head) (answer.Refill a) bins own handed after after' text text' image image' same leaves = subst (λ (bs : List ℕ). LeavesDisk g s (ask.Refill fence head) (answer.Refill a) bs after' text text' image image') same leaves
 any-bins g s (ask.Keep head) given bins own handed after after' text text' image image' same leaves = leaves
 any-bins g s (ask.Refill fence head) given bins own handed after after' text text' image image' same leaves = leaves
 any-bins g s question given bins own handed after after' text text' image image' same leaves = absurd bins

@@ -34,7 +34,7 @@ use Rattle.rz_core.specs.History.{of_word}
 use Rattle.rz_node.specs.View.{NodeView}
 use Rattle.rz_node.specs.Opens.{Opens, IfStarted, UnlessStarted}
 use Rattle.rz_node.specs.Calls as calls
-use Rattle.rz_node.specs.Calls.{Counts, IsNoStart}
+use Rattle.rz_node.specs.Calls.{CountsCall, IsNoStart}
 use Rattle.rz_play.specs.Faults.{unplanned}
 use Rattle.rz_play.specs.Lines.{noted}
 use Rattle.rz_node_laws.specs.Metered.{IsMetered, IsFaultLaw, IsArmLaw, IsStartLaw, IsOpening}
@@ -119,7 +119,7 @@ module _ {D : Type 0} (meter : D → Meter) where
 
   -- a node that answered any call but a start goes on
   pub call-goes : IsFaultLaw → (by : Actor) (n k cells : ℕ) (question : NodeAsk) (given : NodeAnswer) (node node' : NodeView D) → calls.IsNoStart question
-      → IsNodeAnswer cells node.state question given → node'.state ≡ after_answer question given node.state → Counts k given (meter node.disk) (meter node'.disk)
+      → IsNodeAnswer cells node.state question given → node'.state ≡ after_answer question given node.state → CountsCall k given (meter node.disk) (meter node'.disk)
       → (h : List Event) → OneNodeGoesOn meter n node node' h (noted (node_event by n question given) h)
   call-goes law by n k cells question given node node' no_start is after counts h =
       let own = node-word by n question given in
@@ -296,7 +296,7 @@ module _ {D : Type 0} (meter : D → Meter) where
 
 -- What is noted of a message.
 
-pub call-lasts : (k cells : ℕ) (question : NodeAsk) (given : NodeAnswer) (s : NodeState) (old new : Meter) → calls.IsNoStart question → IsNodeAnswer cells s question given → Counts k given old new → old.own ≤ new.own
+pub call-lasts : (k cells : ℕ) (question : NodeAsk) (given : NodeAnswer) (s : NodeState) (old new : Meter) → calls.IsNoStart question → IsNodeAnswer cells s question given → CountsCall k given old new → old.own ≤ new.own
 call-lasts k cells question given s old new ok is counts = counts-last k cells question given s old new (no-start question ok) is counts
 
 module _ {D : Type 0} (meter : D → Meter) (n : ℕ) (node node' : NodeView D) (h h' : List Event) where

@@ -19,7 +19,7 @@ use Rattle.rz_cells_slots.specs.declared.geometry.Geometry.{Geometry}
 use Rattle.rz_node.specs.Change.{IsBranch}
 use Rattle.rz_node.specs.Opens.{IfStarted, IfTook}
 use Rattle.rz_node.specs.View.{NodeView}
-use Rattle.rz_node.specs.Leaves.{Leaves}
+use Rattle.rz_node.specs.Leaves.{LeavesDisk}
 use Rattle.rz_core.specs.History.{Facts, facts}
 use Rattle.rz_node_laws.specs.Images.{IsImaged, geometry_in}
 use Rattle.rz_node_laws.specs.Laws.{IsCallLaw, IsCrashLaw, IsFewerLaw, IsLongerLaw}
@@ -56,7 +56,7 @@ module _ {D : Type 0} (image : D → List ℕ → Type 0) where
     -- the node answered the administrator
     pub call-keeps : IsCallLaw text image → (question : NodeAsk) (given : NodeAnswer) → ((v : Volume) (f : Facts) (n : ℕ) → HandsRecord v f n question []) → (s s' : Server D) → s'.sid ≡ s.sid → s'.node.geometry ≡ s.node.geometry
         → s'.node.state ≡ after_answer question given s.node.state → IsNodeAnswer s.node.geometry.cells s.node.state question given
-        → Leaves s.node.geometry s.node.state question given [] [] (text s.node.disk) (text s'.node.disk) (image s.node.disk) (image s'.node.disk) → KeepsImages image s s'
+        → LeavesDisk s.node.geometry s.node.state question given [] [] (text s.node.disk) (text s'.node.disk) (image s.node.disk) (image s'.node.disk) → KeepsImages image s s'
     call-keeps law question given hands s s' sid geometry after is leaves = λ v f has.
         has-again v f s s' (after_answer question given s.node.state) sid geometry after has.geometry
         (law v f s.sid s.node.geometry.cells s.node.geometry s.node.state question given [] [] s.node.disk s'.node.disk is (hands v f s.sid) leaves has.images)
@@ -86,7 +86,7 @@ module _ {D : Type 0} (image : D → List ℕ → Type 0) where
 
 module _ (g : Geometry) (s : NodeState) (tells : Bool) (told : IsTrue tells) (text text' : List ℕ) (image image' : List ℕ → Type 0) where
   pub starts : (a : StartAnswer) → IfTook a (λ took. IsTrue tells → IsBranch g s.fence text' s.undecided s.held took) → IfStarted a (Only text' image') → text' ≡ text → Within image image'
-      → Leaves g s ask.Start (answer.Start a) [] [] text text' image image'
+      → LeavesDisk g s ask.Start (answer.Start a) [] [] text text' image image'
   starts (start.Started took) branch settled same within = record { text_is = same; settled = settled; branch = branch told }
   starts start.NotDown branch settled same within = within
   starts start.NoMemory branch settled same within = within

@@ -3,7 +3,7 @@ ghost use Rattle.std.specs.Prelude.{◌≡◌, ◌<◌, ◌≤◌, ℕ, List, tr
 ghost use Rattle.rz_cells_slots.specs.Opening.{opening_calls};
 ghost use Rattle.mj_angles.specs.Layout.{max_bins_of};
 ghost use Rattle.rz_block_laws.specs.Laws as laws;
-ghost use Rattle.rz_node.specs.Calls.{Counts, IsNoStart};
+ghost use Rattle.rz_node.specs.Calls.{CountsCall, IsNoStart};
 ghost use Rattle.rz_node.specs.Fetched.{IsFetchOf};
 ghost use Rattle.rz_operation.specs.Answers.{FitsIfEnough, IsAnswerTo, IsPlaced};
 ghost use Rattle.rz_operation_model.specs.Turns.{goes_by_link};
@@ -40,7 +40,7 @@ fn serve<D: Disk>(
     ensures actor { OnOk result (IsOfActor ask.now) }
     ensures message { IfOk result (λ a. IsTrue D.tells → (n : ℕ) → IsAsked machine.now n ask.now → (handed : List ℕ) × laws.IsMessage D.text D.image machine.now n node.old.geometry.cells node.old.geometry node.old.state ask.now a handed bins.new node.old.disk node.new.disk) }
     ensures room { length bins.new ≡ length bins.old }
-    ensures counts { IfOk result (λ a. Counts (opening_calls node.old.geometry) a (D.meter node.old.disk) (D.meter node.new.disk)) }
+    ensures counts { IfOk result (λ a. CountsCall (opening_calls node.old.geometry) a (D.meter node.old.disk) (D.meter node.new.disk)) }
     ensures same { OnErr result (node.new ≡ node.old) }
 {
     match ask {

@@ -21,13 +21,13 @@ use Rattle.rz_names.specs.Names.{below_root}
 use Rattle.rz_tree.specs.Parts.{object_part, name_part}
 use Rattle.rz_tree.specs.declared.parts.Part.{Part}
 use Rattle.rz_export.specs.Parts.{IsBefore, export_parts, flat_parts, block_part, enrolled_part}
-use Rattle.rz_metadata.specs.declared.enrolments.Enrolment.{Enrolment}
+use Rattle.rz_metadata.specs.declared.enrolments.NodeEnrolment.{NodeEnrolment}
 use Rattle.rz_metadata.specs.Enrolled.{among, loss_among, fence_among, loss_of, enrolment_of, enrolments, said_in}
 
 -- ---- the parts, one by one
 
 -- what the parts so far and those to come say, and the part at the place of the count
-pub record Walk (parts : List Part) (i : ℕ) (said : List Enrolment) (next : Option Part) : Type 0 where
+pub record Walk (parts : List Part) (i : ℕ) (said : List NodeEnrolment) (next : Option Part) : Type 0 where
   pub so_far : said ++ said_in (drop i parts) ≡ said_in parts
   pub here : next ≡ slice_get parts i
 
@@ -47,12 +47,12 @@ part-here parts i part at =
     drop_more parts i part (slice_get_within parts i part at) ∙ ap (λ (p : Part). p ∷ drop (i + 1) parts) (get_or_from_slice_get parts i part part at)
 
 -- one part more
-pub goes-on : (parts : List Part) (i : ℕ) (part : Part) (said new : List Enrolment) → slice_get parts i ≡ Some part → said ++ said_in (drop i parts) ≡ said_in parts → new ≡ said ++ said_in (part ∷ [])
+pub goes-on : (parts : List Part) (i : ℕ) (part : Part) (said new : List NodeEnrolment) → slice_get parts i ≡ Some part → said ++ said_in (drop i parts) ≡ said_in parts → new ≡ said ++ said_in (part ∷ [])
     → new ++ said_in (drop (i + 1) parts) ≡ said_in parts
 goes-on parts i part said new at so_far is =
-    ap (λ (r : List Enrolment). r ++ said_in (drop (i + 1) parts)) is
+    ap (λ (r : List NodeEnrolment). r ++ said_in (drop (i + 1) parts)) is
     ∙ append_assoc said (said_in (part ∷ [])) (said_in (drop (i + 1) parts))
-    ∙ ap (λ (r : List Enrolment). said ++ r) (sym (said-append (part ∷ []) (drop (i + 1) parts)) ∙ ap said_in (sym (part-here parts i part at)))
+    ∙ ap (λ (r : List NodeEnrolment). said ++ r) (sym (said-append (part ∷ []) (drop (i + 1) parts)) ∙ ap said_in (sym (part-here parts i part at)))
     ∙ so_far
   where
     said-append : (xs ys : List Part) → said_in (xs ++ ys) ≡ said_in xs ++ said_in ys
@@ -84,7 +84,7 @@ none-of-blocks (e ∷ es) more = none-of-blocks es more
 
 of-enrolments : (es : List (ℕ × Enrolled)) → said_in (map enrolled_part es) ≡ map enrolment_of es
 of-enrolments [] = refl
-of-enrolments (e ∷ es) = ap (λ (ls : List Enrolment). enrolment_of e ∷ ls) (of-enrolments es)
+of-enrolments (e ∷ es) = ap (λ (ls : List NodeEnrolment). enrolment_of e ∷ ls) (of-enrolments es)
 
 -- the parts of an export say its enrolments
 pub all-said : (s : Export) → said_in (export_parts s) ≡ enrolments s
@@ -95,13 +95,13 @@ all-said s =
     ∙ none-of-blocks (maps.entries s.blocks) (map enrolled_part (maps.entries s.enrolled))
     ∙ of-enrolments (maps.entries s.enrolled)
 
-pub ends-with : (s : Export) (i : ℕ) (said : List Enrolment) → slice_get (export_parts s) i ≡ None → said ++ said_in (drop i (export_parts s)) ≡ said_in (export_parts s) → said ≡ enrolments s
+pub ends-with : (s : Export) (i : ℕ) (said : List NodeEnrolment) → slice_get (export_parts s) i ≡ None → said ++ said_in (drop i (export_parts s)) ≡ said_in (export_parts s) → said ≡ enrolments s
 ends-with s i said none so_far =
     sym (append-nil said) ∙ ap (λ (ps : List Part). said ++ said_in ps) (sym (drop_all i (export_parts s) (none-past (export_parts s) i none))) ∙ so_far ∙ all-said s
 
 -- ---- the enrolment of a node
 
-abbrev given : Option Enrolled → ℕ → Option Enrolment
+abbrev given : Option Enrolled → ℕ → Option NodeEnrolment
 given None q = None
 given (Some e) q = Some (enrolment_of (q, e))
 
@@ -131,16 +131,16 @@ among-enrolled : (s : Export) (q : ℕ) → among q (enrolments s) ≡ given (ma
 among-enrolled s q = among-entries q (maps.entries s.enrolled) ∙ ap (λ (o : Option Enrolled). given o q) (sym (get-entries s.enrolled q))
 
 pub loss-enrolled : (s : Export) (q : ℕ) → loss_among q (enrolments s) ≡ loss_of s q
-loss-enrolled s q = ap (λ (o : Option Enrolment). option_map_or (λ (e : Enrolment). e.loss) o 0) (among-enrolled s q) ∙ go (maps.get s.enrolled q)
+loss-enrolled s q = ap (λ (o : Option NodeEnrolment). option_map_or (λ (e : NodeEnrolment). e.loss) o 0) (among-enrolled s q) ∙ go (maps.get s.enrolled q)
   where
-    go : (o : Option Enrolled) → option_map_or (λ (e : Enrolment). e.loss) (given o q) 0 ≡ option_map_or (λ (e : Enrolled). e.loss) o 0
+    go : (o : Option Enrolled) → option_map_or (λ (e : NodeEnrolment). e.loss) (given o q) 0 ≡ option_map_or (λ (e : Enrolled). e.loss) o 0
     go None = refl
     go (Some e) = refl
 
 pub fence-enrolled : (s : Export) (q : ℕ) → fence_among q (enrolments s) ≡ fence_of s q
-fence-enrolled s q = ap (λ (o : Option Enrolment). option_map_or (λ (e : Enrolment). e.fence) o 0) (among-enrolled s q) ∙ go (maps.get s.enrolled q)
+fence-enrolled s q = ap (λ (o : Option NodeEnrolment). option_map_or (λ (e : NodeEnrolment). e.fence) o 0) (among-enrolled s q) ∙ go (maps.get s.enrolled q)
   where
-    go : (o : Option Enrolled) → option_map_or (λ (e : Enrolment). e.fence) (given o q) 0 ≡ option_map_or (λ (e : Enrolled). e.fence) o 0
+    go : (o : Option Enrolled) → option_map_or (λ (e : NodeEnrolment). e.fence) (given o q) 0 ≡ option_map_or (λ (e : Enrolled). e.fence) o 0
     go None = refl
     go (Some e) = refl
 

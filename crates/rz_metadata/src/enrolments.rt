@@ -11,7 +11,7 @@ use std::alloc::{AllocError, Global};
 
 /// The last enrolment of a node: the greatest loss, and the fence that was drawn for it.
 #[derive(Clone, Copy, PartialEq, Eq, Drop)]
-pub(crate) struct Enrolment {
+pub(crate) struct NodeEnrolment {
     node: u16,
     loss: u64,
     fence: u64,
@@ -45,7 +45,7 @@ pub(crate) fn fences_of(
 
 /// The last enrolment of each node of which a loss was enrolled, in the order of their numbers. Each part
 /// is found from the one before it.
-fn enrolled(alloc: Global, export: &Export) -> Result<Vec<Enrolment>, AllocError>
+fn enrolled(alloc: Global, export: &Export) -> Result<Vec<NodeEnrolment>, AllocError>
     ensures { IfOk result (λ v. v.items ≡ enrolments export.now) }
 {
     let mut said = Vec::new(alloc);
@@ -62,7 +62,7 @@ fn enrolled(alloc: Global, export: &Export) -> Result<Vec<Enrolment>, AllocError
 }
 
 /// Adds what a part says of an enrolment. The part goes then.
-fn note_part(part: Part, said: &mut Vec<Enrolment>) -> Result<(), AllocError>
+fn note_part(part: Part, said: &mut Vec<NodeEnrolment>) -> Result<(), AllocError>
     ensures { OnOk result (said.new.items ≡ said.old.items ++ said_in (part ∷ [])) }
 {
     let noted = note(&part, said);
@@ -71,11 +71,11 @@ fn note_part(part: Part, said: &mut Vec<Enrolment>) -> Result<(), AllocError>
 }
 
 /// Adds the enrolment, where a part is one.
-fn note(part: &Part, said: &mut Vec<Enrolment>) -> Result<(), AllocError>
+fn note(part: &Part, said: &mut Vec<NodeEnrolment>) -> Result<(), AllocError>
     ensures { OnOk result (said.new.items ≡ said.old.items ++ said_in (part.now ∷ [])) }
 {
     if let Part::Enrolled { node, loss, fence } = part {
-        said.push(Enrolment {
+        said.push(NodeEnrolment {
             node: *node,
             loss: *loss,
             fence: *fence,
@@ -87,7 +87,7 @@ fn note(part: &Part, said: &mut Vec<Enrolment>) -> Result<(), AllocError>
 /// The loss of each of these nodes, or 0 where none is given.
 fn losses_among(
     alloc: Global,
-    enrolled: &[Enrolment],
+    enrolled: &[NodeEnrolment],
     nodes: &[NodeSpec],
 ) -> Result<Vec<u64>, AllocError>
     ensures { IfOk result (λ v. v.items ≡ map (λ (n : ANode). loss_among n.sid enrolled.now) nodes.now) }
@@ -106,7 +106,7 @@ fn losses_among(
 /// The fence of each of these nodes, or 0 where none is given.
 fn fences_among(
     alloc: Global,
-    enrolled: &[Enrolment],
+    enrolled: &[NodeEnrolment],
     nodes: &[NodeSpec],
 ) -> Result<Vec<u64>, AllocError>
     ensures { IfOk result (λ v. v.items ≡ map (λ (n : ANode). fence_among n.sid enrolled.now) nodes.now) }
@@ -123,7 +123,7 @@ fn fences_among(
 }
 
 /// The first of these that is of a node.
-fn among(enrolled: &[Enrolment], node: u16) -> Option<Enrolment>
+fn among(enrolled: &[NodeEnrolment], node: u16) -> Option<NodeEnrolment>
     ensures { result ≡ among node enrolled.now }
 {
     for enrolment in enrolled {

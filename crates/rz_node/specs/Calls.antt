@@ -17,14 +17,14 @@ use Rattle.rz_node.specs.Spends.{Spends, keep_used, fetch_used, refill_used, dro
 use Rattle.rz_node.specs.Opens.{Opens, Replaces, IsRefused, IsUnlooked}
 
 -- the head of a record of this layout, and so many bins
-pub record IsRecord (layout : Layout) (head : Head) (bins : List ℕ) : Type 0 where
+pub record FitsLayout (layout : Layout) (head : Head) (bins : List ℕ) : Type 0 where
   pub valid : IsValid head
   pub layout_is : head.layout ≡ layout
   pub bins_are : length bins ≡ bins_of head
 
 abbrev pub Takes : Layout → NodeAsk → List ℕ → Type 0
-Takes layout (ask.Keep head) bins = IsRecord layout head bins
-Takes layout (ask.Refill fence head) bins = IsRecord layout head bins
+Takes layout (ask.Keep head) bins = FitsLayout layout head bins
+Takes layout (ask.Refill fence head) bins = FitsLayout layout head bins
 Takes layout (ask.Fetch key position stamp) bins = max_bins_of layout ≤ length bins
 Takes layout _ bins = Unit {0}
 
@@ -65,13 +65,13 @@ IfStart (answer.Start a) P = P a
 IfStart _ P = Unit {0}
 
 -- an opening makes so many device calls
-abbrev pub Counts : ℕ → NodeAnswer → Meter → Meter → Type 0
-Counts k (answer.Keep a) old new = Spends 4 (keep_used a) old new
-Counts k (answer.Fetch a) old new = Spends 1 (fetch_used a) old new
-Counts k (answer.Refill a) old new = Spends 4 (refill_used a) old new
-Counts k (answer.Drop a) old new = Spends 4 (drop_used a) old new
-Counts k (answer.Start a) old new = Opens k a old new
-Counts k (answer.Replace a) old new = Replaces a old new
-Counts k (answer.Probe a) old new = new ≡ old
-Counts k (answer.Stop a) old new = new ≡ old
-Counts k (answer.Lose a) old new = new ≡ old
+abbrev pub CountsCall : ℕ → NodeAnswer → Meter → Meter → Type 0
+CountsCall k (answer.Keep a) old new = Spends 4 (keep_used a) old new
+CountsCall k (answer.Fetch a) old new = Spends 1 (fetch_used a) old new
+CountsCall k (answer.Refill a) old new = Spends 4 (refill_used a) old new
+CountsCall k (answer.Drop a) old new = Spends 4 (drop_used a) old new
+CountsCall k (answer.Start a) old new = Opens k a old new
+CountsCall k (answer.Replace a) old new = Replaces a old new
+CountsCall k (answer.Probe a) old new = new ≡ old
+CountsCall k (answer.Stop a) old new = new ≡ old
+CountsCall k (answer.Lose a) old new = new ≡ old

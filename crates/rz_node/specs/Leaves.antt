@@ -60,16 +60,16 @@ Renews g fence text' image image' _ = Within image image'
 
 -- What a call leaves of the disk of a node in this state, by its answer. The bins are those of a record that is kept; after
 -- a fetch bins' have those of the record that was read.
-abbrev pub Leaves : Geometry → NodeState → NodeAsk → NodeAnswer → List ℕ → List ℕ → List ℕ → List ℕ → (List ℕ → Type 0) → (List ℕ → Type 0) → Type 0
-Leaves g s (ask.Keep head) (answer.Keep a) bins bins' text text' image image' =
+abbrev pub LeavesDisk : Geometry → NodeState → NodeAsk → NodeAnswer → List ℕ → List ℕ → List ℕ → List ℕ → (List ℕ → Type 0) → (List ℕ → Type 0) → Type 0
+LeavesDisk g s (ask.Keep head) (answer.Keep a) bins bins' text text' image image' =
     Changes g s.fence text text' image image' (keep_used a) head.key (held_of s.held head.key)
     (kept stamp_of head.base (record_of head) (held_of s.held head.key)) (Some record { head = head; bins = bins })
-Leaves g s (ask.Refill fence head) (answer.Refill a) bins bins' text text' image image' =
+LeavesDisk g s (ask.Refill fence head) (answer.Refill a) bins bins' text text' image image' =
     Changes g s.fence text text' image image' (refill_used a) head.key (held_of s.held head.key)
     (refilled stamp_of (record_of head) (held_of s.held head.key)) (Some record { head = head; bins = bins })
-Leaves g s (ask.Fetch key position stamp) (answer.Fetch a) bins bins' text text' image image' =
+LeavesDisk g s (ask.Fetch key position stamp) (answer.Fetch a) bins bins' text text' image image' =
     Within image image' × IfHeld a (λ told. IsFetchedFromDisk g s.fence text key told bins bins')
-Leaves g s (ask.Drop fid) (answer.Drop a) bins bins' text text' image image' = Drops g s text text' image image' fid a
-Leaves g s ask.Start (answer.Start a) bins bins' text text' image image' = Starts g s text text' image image' a
-Leaves g s (ask.Replace loss fence) (answer.Replace a) bins bins' text text' image image' = Renews g fence text' image image' a
-Leaves g s _ _ bins bins' text text' image image' = Within image image'
+LeavesDisk g s (ask.Drop fid) (answer.Drop a) bins bins' text text' image image' = Drops g s text text' image image' fid a
+LeavesDisk g s ask.Start (answer.Start a) bins bins' text text' image image' = Starts g s text text' image image' a
+LeavesDisk g s (ask.Replace loss fence) (answer.Replace a) bins bins' text text' image image' = Renews g fence text' image image' a
+LeavesDisk g s _ _ bins bins' text text' image image' = Within image image'

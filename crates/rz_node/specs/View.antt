@@ -49,7 +49,7 @@ IsReady Down is_open is_down = is_down
 IsReady Lost is_open is_down = Unit {0}
 
 -- The index is of the cells' heads, only a down node has an undecided change, and the disk is as the phase says.
-pub record IsNode (tells : Bool) (text : List ℕ) (image : List ℕ → Type 0) (phase : Phase) (undecided : Option Pending) (g : Geometry) (fence : ℕ) (gates : List ℕ) (heads : List (Option Head)) (index : Indexed) : Type 0 where
+pub record StandsAsNode (tells : Bool) (text : List ℕ) (image : List ℕ → Type 0) (phase : Phase) (undecided : Option Pending) (g : Geometry) (fence : ℕ) (gates : List ℕ) (heads : List (Option Head)) (index : Indexed) : Type 0 where
   pub tied : IsTied g.cells heads index
   pub decided : phase ≢ Down → undecided ≡ None
   pub ready : IsReady phase (IsOpen tells text image g fence gates heads) (IsDown tells image g fence undecided (held_by index.entries heads))

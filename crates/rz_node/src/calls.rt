@@ -10,11 +10,11 @@ ghost use Rattle.rz_cells_slots.specs.Stands.{StandsFor};
 ghost use Rattle.rz_node_model.specs.Answers.{IsNodeAnswer};
 ghost use Rattle.rz_node_model.specs.Afterwards.{after_answer};
 ghost use Rattle.rz_node_model.specs.States.{opened};
-ghost use Rattle.rz_node.specs.Calls.{Takes, IsRecord, IsNoStart, IsReading, IsSettled, IsUnread, IsUnused, IfStart, Counts};
+ghost use Rattle.rz_node.specs.Calls.{Takes, FitsLayout, IsNoStart, IsReading, IsSettled, IsUnread, IsUnused, IfStart, CountsCall};
 ghost use Rattle.rz_node.specs.DownDisk.{has_taken};
 ghost use Rattle.rz_node.specs.Fetched.{IsFetchOf};
 ghost use Rattle.rz_node.specs.HeldOnDisk.{IsHeldOnDisk};
-ghost use Rattle.rz_node.specs.Leaves.{Leaves};
+ghost use Rattle.rz_node.specs.Leaves.{LeavesDisk};
 ghost use Rattle.rz_node.specs.Opens.{IfStarted, IfUnopened, TookIs, UnlessStarted};
 
 use crate::Node;
@@ -38,7 +38,7 @@ fn is_head(layout: Layout, head: &Head) -> bool
 /// Whether a head and so many bins are those of a record of this layout.
 #[tactic(auto, unfolding(rz_record::specs::Record::bins_of))]
 pub fn is_record(layout: Layout, head: &Head, bins: &[u64]) -> bool
-    ensures { IsTrue result ↔ IsRecord layout head.now bins.now }
+    ensures { IsTrue result ↔ FitsLayout layout head.now bins.now }
 {
     if !is_head(layout, head) {
         return false;
@@ -91,8 +91,8 @@ pub fn answer_node<D: Disk>(
     ensures within { IsReading result → Within (D.image node.old.disk) (D.image node.new.disk) }
     ensures settled { IsSettled result → Only (D.text node.new.disk) (D.image node.new.disk) }
 
-    ensures counts { Counts (opening_calls node.old.geometry) result (D.meter node.old.disk) (D.meter node.new.disk) }
-    ensures leaves { IsTrue D.tells → Leaves node.old.geometry node.old.state ask.now result bins.old bins.new (D.text node.old.disk) (D.text node.new.disk) (D.image node.old.disk) (D.image node.new.disk) }
+    ensures counts { CountsCall (opening_calls node.old.geometry) result (D.meter node.old.disk) (D.meter node.new.disk) }
+    ensures leaves { IsTrue D.tells → LeavesDisk node.old.geometry node.old.state ask.now result bins.old bins.new (D.text node.old.disk) (D.text node.new.disk) (D.image node.old.disk) (D.image node.new.disk) }
 {
     match ask {
         NodeAsk::Keep(head) => NodeAnswer::Keep(node.keep(head, bins)),

@@ -32,7 +32,7 @@ pub struct Node<D: Disk> {
 }
 
 impl<D: Disk> Model for Node<D> {
-    ghost use Rattle.rz_node.specs.View.{NodeView, IsNode, state_of, view_code};
+    ghost use Rattle.rz_node.specs.View.{NodeView, StandsAsNode, state_of, view_code};
 
     ghost Value = { NodeView D };
 
@@ -44,7 +44,7 @@ impl<D: Disk> Model for Node<D> {
       state = state_of n.phase n.losses n.undecided n.cells.fence n.index.entries n.cells.heads;
     } };
 
-    ghost invariant = { λ n. IsNode D.tells (D.text n.cells.disk) (D.image n.cells.disk) n.phase n.undecided n.cells.geometry n.cells.fence n.cells.gates.items n.cells.heads n.index };
+    ghost invariant = { λ n. StandsAsNode D.tells (D.text n.cells.disk) (D.image n.cells.disk) n.phase n.undecided n.cells.geometry n.cells.fence n.cells.gates.items n.cells.heads n.index };
 }
 
 impl<D: Disk> Node<D> {

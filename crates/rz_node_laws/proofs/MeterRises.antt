@@ -13,7 +13,7 @@ use Rattle.rz_node_model.specs.States.{NodeState}
 use Rattle.rz_node_model.specs.Answers.{IsNodeAnswer}
 use Rattle.rz_node.specs.Opens.{Opens}
 use Rattle.rz_node.specs.Spends.{Spends, keep_used, fetch_used, refill_used, drop_used}
-use Rattle.rz_node.specs.Calls.{Counts, IsNoStart}
+use Rattle.rz_node.specs.Calls.{CountsCall, IsNoStart}
 use Rattle.rz_node.specs.Calls as calls
 
 pub no-start : (question : NodeAsk) → calls.IsNoStart question → IsNoStart question
@@ -29,7 +29,7 @@ spends-lasts k (Some true) old new is = is.lasts.own
 spends-lasts k (Some false) old new is = is.lasts.own
 
 -- no call but a start makes the count fall, nor does that
-pub counts-last : (k cells : ℕ) (question : NodeAsk) (given : NodeAnswer) (s : NodeState) (old new : Meter) → IsNoStart question → IsNodeAnswer cells s question given → Counts k given old new → old.own ≤ new.own
+pub counts-last : (k cells : ℕ) (question : NodeAsk) (given : NodeAnswer) (s : NodeState) (old new : Meter) → IsNoStart question → IsNodeAnswer cells s question given → CountsCall k given old new → old.own ≤ new.own
 counts-last k cells question (answer.Keep a) s old new no_start is counts = spends-lasts 4 (keep_used a) old new counts
 counts-last k cells question (answer.Fetch a) s old new no_start is counts = spends-lasts 1 (fetch_used a) old new counts
 counts-last k cells question (answer.Refill a) s old new no_start is counts = spends-lasts 4 (refill_used a) old new counts

@@ -20,7 +20,7 @@ use Rattle.rz_node_model.specs.States.{NodeState, fresh}
 use Rattle.rz_cells_slots.specs.declared.geometry.Geometry.{Geometry}
 use Rattle.rz_cells_slots.specs.Held.{nothing}
 use Rattle.rz_cells_slots.specs.Stands.{StandsFor}
-use Rattle.rz_node.specs.Leaves.{Leaves}
+use Rattle.rz_node.specs.Leaves.{LeavesDisk}
 use Rattle.rz_core.specs.History.{Facts, facts}
 use Rattle.rz_core.specs.Tied.{IsNode}
 use Rattle.rz_node_laws.specs.Records.{HandsRecord, IsRecordOf, IsWritten}
@@ -36,7 +36,7 @@ abbrev pub IsCallLaw : {D : Type 0} → (D → List ℕ) → (D → List ℕ →
 IsCallLaw {D = D} text image =
     (v : Volume) (f : Facts) (n cells : ℕ) (g : Geometry) (s : NodeState) (question : NodeAsk) (given : NodeAnswer) (bins bins' : List ℕ) (old new : D)
     → IsNodeAnswer cells s question given → HandsRecord v f n question bins
-    → Leaves g s question given bins bins' (text old) (text new) (image old) (image new)
+    → LeavesDisk g s question given bins bins' (text old) (text new) (image old) (image new)
     → IsImaged v f n s g (image old) → IsImaged v f n (after_answer question given s) g (image new)
 
 -- a disk with no other images, as one that was armed or read
@@ -77,5 +77,5 @@ abbrev pub IsFetchLaw : {D : Type 0} → (D → List ℕ) → (D → List ℕ �
 IsFetchLaw {D = D} text image =
     (v : Volume) (f : Facts) (n cells : ℕ) (g : Geometry) (s : NodeState) (key : Key) (position stamp : ℕ) (told : Held) (bins bins' : List ℕ) (old new : D)
     → IsNodeAnswer cells s (ask.Fetch key position stamp) (answer.Fetch (fetch.Held told))
-    → Leaves g s (ask.Fetch key position stamp) (answer.Fetch (fetch.Held told)) bins bins' (text old) (text new) (image old) (image new)
+    → LeavesDisk g s (ask.Fetch key position stamp) (answer.Fetch (fetch.Held told)) bins bins' (text old) (text new) (image old) (image new)
     → IsImaged v f n s g (image old) → IsReadBack v f n key told bins bins'

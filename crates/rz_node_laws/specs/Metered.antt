@@ -15,7 +15,7 @@ use Rattle.rz_node_model.specs.Answers.{IsNodeAnswer}
 use Rattle.rz_node_model.specs.Afterwards.{after_answer, after_start}
 use Rattle.rz_node_model.specs.NodeEvents.{node_event, start_event}
 use Rattle.rz_node.specs.Opens.{Opens}
-use Rattle.rz_node.specs.Calls.{Counts, IsNoStart}
+use Rattle.rz_node.specs.Calls.{CountsCall, IsNoStart}
 use Rattle.rz_play.specs.Faults.{fuse_of, unplanned, slips, AreFaultsCounted}
 use Rattle.rz_play.specs.Lines.{noted}
 
@@ -33,7 +33,7 @@ pub record IsMetered (first : ℕ) (w : List Event) (phase : Phase) (m : Meter) 
 abbrev pub IsFaultLaw : Type 0
 IsFaultLaw =
     (first k cells : ℕ) (w : List Event) (s : NodeState) (by : Actor) (n : ℕ) (question : NodeAsk) (given : NodeAnswer) (old new : Meter)
-    → new.own < 2 ^ 64 - 1 → IsNoStart question → IsNodeAnswer cells s question given → Counts k given old new
+    → new.own < 2 ^ 64 - 1 → IsNoStart question → IsNodeAnswer cells s question given → CountsCall k given old new
     → IsMetered first w s.phase old → IsMetered first (noted (node_event by n question given) w) (after_answer question given s).phase new
 
 abbrev pub IsArmLaw : Type 0

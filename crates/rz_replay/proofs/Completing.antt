@@ -14,7 +14,7 @@ use Rattle.rz_request.specs.declared.wishes.Wish.{Wish}
 use Rattle.rz_request.specs.declared.wishes.Wish.TheVariants.{Again}
 use Rattle.rz_report.specs.Clear.{IsCompleteAgain}
 use Rattle.rz_report.specs.Output.{Sunk}
-use Rattle.rz_report.specs.Replays.{Course, Unplayed, Unopened, Performed, Ensues}
+use Rattle.rz_report.specs.Replays.{RequestProgress, Unplayed, Unopened, Performed, Ensues}
 use Rattle.rz_report.proofs.Asked.{HasCome}
 use Rattle.rz_report.proofs.Completing.{come}
 use Rattle.rz_replay.specs.Clear.{ResumeCompletes}
@@ -22,10 +22,10 @@ use Rattle.rz_replay.specs.Disks.{AreBackAgain, AreBackFrom, HandsBack, IsPlayAf
 
 module _ {D : Type 0} (G : Ghosts D) (old new : List D) (lost : ℕ) (h : List Event) (s : Script) where
   -- how the disks come back where a play after earlier runs was asked for
-  abbrev Back : Course → Type 0
+  abbrev Back : RequestProgress → Type 0
   Back course = (course ≡ Unplayed) ⊎ AreBackAgain G course s.volume s.lines lost old new h
 
-  back-from : (sink : Sunk) (status : ℕ) (course : Course) (result : Result Request Stop) → HasCome s (script_in result) → IsRequestFor Again result → Ensues G.tells course result (faulted G.meter old new) lost sink status h
+  back-from : (sink : Sunk) (status : ℕ) (course : RequestProgress) (result : Result Request Stop) → HasCome s (script_in result) → IsRequestFor Again result → Ensues G.tells course result (faulted G.meter old new) lost sink status h
       → HandsBack G course result lost old new h → Back course
   back-from sink status course (Err stop) came for e back = inl e.2
   back-from sink status course (Ok r) came for e back =
@@ -33,7 +33,7 @@ module _ {D : Type 0} (G : Ghosts D) (old new : List D) (lost : ℕ) (h : List E
       let Q : Wish → Type 0 = λ w. AreBackFrom G course w s.volume s.lines lost old new h in
       inr (subst Q for (subst P came back))
 
-  all-opened : ((index cause : ℕ) → ¬ IsCauseAgain G.tells G.meter G.text G.image s.volume old new (Open index cause)) → (course : Course) → Back course → (index cause : ℕ) → course ≡ Unopened index cause → ⊥
+  all-opened : ((index cause : ℕ) → ¬ IsCauseAgain G.tells G.meter G.text G.image s.volume old new (Open index cause)) → (course : RequestProgress) → Back course → (index cause : ℕ) → course ≡ Unopened index cause → ⊥
   all-opened opens Unplayed back index cause is = cc
   all-opened opens (Unopened i k) (inl none) index cause is = cc
   all-opened opens (Unopened i k) (inr back) index cause is = absurd (opens i k back.1)
@@ -41,7 +41,7 @@ module _ {D : Type 0} (G : Ghosts D) (old new : List D) (lost : ℕ) (h : List E
 
   module _ (telling : IsTrue G.tells) (earlier : List Event) (is_earlier : IsEarlier s.volume earlier) (left : AreLeft G.image s.volume earlier old) where
     -- no turn too many was called for
-    enough-turns : ((before g : List Event) → IsRestarted s.volume earlier before → ¬ IsPlayAfter s.volume before s.lines ends.TooManyTurns lost g) → (course : Course) → Back course
+    enough-turns : ((before g : List Event) → IsRestarted s.volume earlier before → ¬ IsPlayAfter s.volume before s.lines ends.TooManyTurns lost g) → (course : RequestProgress) → Back course
         → (later : List Event) → course ≡ Performed ends.TooManyTurns later → ⊥
     enough-turns turns Unplayed back later is = cc
     enough-turns turns (Unopened i k) back later is = cc

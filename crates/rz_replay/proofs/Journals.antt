@@ -26,7 +26,7 @@ use Rattle.rz_request.specs.Requests.{nodes_in}
 use Rattle.rz_request.specs.declared.wishes.Request.{Request}
 use Rattle.rz_request.specs.declared.wishes.Wish.{Wish}
 use Rattle.rz_request.specs.declared.wishes.Wish.TheVariants as wishes
-use Rattle.rz_report.specs.Replays.{Course, Faulted, HasJournal, MayEnd}
+use Rattle.rz_report.specs.Replays.{RequestProgress, Faulted, HasJournal, MayEnd}
 use Rattle.rz_report.specs.Scrubs.{BetweenTurns}
 use Rattle.rz_replay.specs.Disks.{AreAllBack, AreBackAgain, AreBackFrom, AreFaultsTold, AreImagesTold, IsJournalLeft, LeavesNext, MayBeResumed, asked_in}
 
@@ -41,7 +41,7 @@ plain-end ends.Journal why r disks journaled is cut = let journal : IsTrue journ
 plain-end ends.JournalFull why r disks journaled is cut = let journal : IsTrue journaled = cut.1 in cc
 
 -- the disks are those of the nodes
-pub plain-back : {D : Type 0} (G : Ghosts D) (course : Course) (wish : Wish) (v : Volume) (lines : List Line) (lost : ℕ) (old new : List D) (h : List Event)
+pub plain-back : {D : Type 0} (G : Ghosts D) (course : RequestProgress) (wish : Wish) (v : Volume) (lines : List Line) (lost : ℕ) (old new : List D) (h : List Event)
     → wish ≢ wishes.First → wish ≢ wishes.Again
     → AreFaultsTold G.meter v old new (asked_in course ++ h) × AreImagesTold G course v old new h → AreBackFrom G course wish v lines lost old new h
 plain-back G course wishes.Replay v lines lost old new h plain anew back = back
@@ -51,7 +51,7 @@ plain-back G course wishes.First v lines lost old new h plain anew back = absurd
 plain-back G course wishes.Again v lines lost old new h plain anew back = absurd (anew refl)
 
 -- with one, that of the journal is behind them
-module _ {D : Type 0} (G : Ghosts D) (course : Course) (wish : Wish) (v : Volume) (lines : List Line) (lost : ℕ) (old new : List D) (h : List Event) where
+module _ {D : Type 0} (G : Ghosts D) (course : RequestProgress) (wish : Wish) (v : Volume) (lines : List Line) (lost : ℕ) (old new : List D) (h : List Event) where
   pub first-back : wish ≡ wishes.First → AreAllBack G course v lines lost old new h → AreBackFrom G course wish v lines lost old new h
   first-back is back = subst (λ (w : Wish). AreBackFrom G course w v lines lost old new h) (sym is) back
 

@@ -13,7 +13,7 @@ use Rattle.rz_driver.specs.Continued.{IsCauseAgain}
 use Rattle.rz_driver.specs.Formatted.{AreBackWithJournal}
 use Rattle.rz_driver_nodes.specs.Meters.{faults_at}
 use Rattle.rz_report.specs.Output.{Sunk}
-use Rattle.rz_report.specs.Replays.{Course, Unplayed, Unopened, FollowsRequest}
+use Rattle.rz_report.specs.Replays.{RequestProgress, Unplayed, Unopened, FollowsRequest}
 use Rattle.rz_report.specs.Telling.{Stops}
 use Rattle.rz_report.proofs.Anew.{told_as}
 use Rattle.rz_request.specs.Requests.{disks_for}

@@ -16,13 +16,13 @@ use Rattle.rz_request.specs.declared.wishes.Request.{Request}
 use Rattle.rz_request.specs.declared.wishes.Wish.TheVariants.{Again}
 use Rattle.rz_report.specs.Clear.{IsPlayable, IsFinishedAgain}
 use Rattle.rz_report.specs.Output.{Sunk, Lacks}
-use Rattle.rz_report.specs.Replays.{Course, Performed, Ensues}
+use Rattle.rz_report.specs.Replays.{RequestProgress, Performed, Ensues}
 use Rattle.rz_replay.specs.Disks.{HandsBack, IsPlayAfter, faulted}
 
 -- The words wish for the script to go on over disks as earlier runs with this log left them, of which none is such that it does not
 -- open. No play of the script behind that log, with the nodes stopped and started, calls for a turn too many. The last disk, that of
 -- the journal, counted no fault, and no call found it full.
-pub record IsResumeClear {D : Type 0} (G : Ghosts D) (words : Option Meaning) (source : Reading) (old new : List D) (lost : ℕ) (course : Course) (sink : Sunk) (s : Script) (earlier : List Event) : Type 0 where
+pub record IsResumeClear {D : Type 0} (G : Ghosts D) (words : Option Meaning) (source : Reading) (old new : List D) (lost : ℕ) (course : RequestProgress) (sink : Sunk) (s : Script) (earlier : List Event) : Type 0 where
   pub playable : IsPlayable words source (length old) (faulted G.meter old new) course sink Again s
   pub is_earlier : IsEarlier s.volume earlier
   pub left : AreLeft G.image s.volume earlier old
@@ -35,6 +35,6 @@ pub record IsResumeClear {D : Type 0} (G : Ghosts D) (words : Option Meaning) (s
 -- memory is wanting.
 abbrev pub ResumeCompletes : {D : Type 0} → Ghosts D → Type 0
 ResumeCompletes {D = D} G =
-    (words : Option Meaning) (source : Reading) (old new : List D) (lost : ℕ) (sink : Sunk) (status : ℕ) (h : List Event) (course : Course) (r : Result Request Stop)
+    (words : Option Meaning) (source : Reading) (old new : List D) (lost : ℕ) (sink : Sunk) (status : ℕ) (h : List Event) (course : RequestProgress) (r : Result Request Stop)
     → Asks words source (length old) r → Ensues G.tells course r (faulted G.meter old new) lost sink status h → HandsBack G course r lost old new h
     → IsTrue G.tells → (s : Script) (earlier : List Event) → IsResumeClear G words source old new lost course sink s earlier → IsFinishedAgain course sink status h ⊎ Lacks sink status

@@ -38,7 +38,7 @@ use Rattle.rz_request.specs.declared.refusal.Stop.{Stop}
 use Rattle.rz_request.specs.declared.wishes.Request.{Request}
 use Rattle.rz_request.specs.declared.wishes.Wish.{Wish}
 use Rattle.rz_request.specs.declared.wishes.Wish.TheVariants.{First, Again}
-use Rattle.rz_report.specs.Replays.{Faulted, Course, Unplayed, Unopened, Performed}
+use Rattle.rz_report.specs.Replays.{Faulted, RequestProgress, Unplayed, Unopened, Performed}
 
 -- the numbers of a volume's nodes, in order
 abbrev pub numbers_of_volume : Volume → List ℕ
@@ -55,13 +55,13 @@ AreFaultsTold meter v old new h = AreDisksCounted meter (faults_at meter old) 0 
 
 -- Where no play began, each image of each disk is one from before, or its header is shut, or it stands for nothing. After a play,
 -- with its log, each stands for what the log says that its node holds.
-abbrev pub AreImagesTold : {D : Type 0} → Ghosts D → Course → Volume → List D → List D → List Event → Type 0
+abbrev pub AreImagesTold : {D : Type 0} → Ghosts D → RequestProgress → Volume → List D → List D → List Event → Type 0
 AreImagesTold G Unplayed v old new h = AreBack G.tells G.meter G.image v.layout (nodes_of v.clusters) old new
 AreImagesTold G (Unopened index cause) v old new h = ⊥
 AreImagesTold G (Performed end later) v old new h = IsTrue G.tells → AreDisksImaged G.image v (numbers_of_volume v) new h
 
 -- the events of the records that were asked for after a play
-abbrev pub asked_in : Course → List Event
+abbrev pub asked_in : RequestProgress → List Event
 asked_in Unplayed = []
 asked_in (Unopened index cause) = []
 asked_in (Performed end later) = later
@@ -75,7 +75,7 @@ IsJournalLeft G stops JournalFull v old new h = (c : Call) × stops c × EndsAsR
 IsJournalLeft G stops end v old new h = IsTrue G.tells → StandsForLog (G.image new) v h
 
 -- Where no play began, each image of a journal's disk is one from before, or its header is shut, or it stands for no calls.
-abbrev pub IsJournalTold : {D : Type 0} → Ghosts D → (stops : Call → Type 0) → Course → Volume → (old new : D) → List Event → Type 0
+abbrev pub IsJournalTold : {D : Type 0} → Ghosts D → (stops : Call → Type 0) → RequestProgress → Volume → (old new : D) → List Event → Type 0
 IsJournalTold G stops Unplayed v old new h = IsJournalBack G.tells G.meter G.image v old new
 IsJournalTold G stops (Unopened index cause) v old new h = ⊥
 IsJournalTold G stops (Performed end later) v old new h = IsJournalLeft G stops end v old new h
@@ -91,14 +91,14 @@ abbrev pub LeavesNext : PlayEnd → Type 0 → Type 0
 LeavesNext Journal next = Unit {0}
 LeavesNext end next = next
 
-abbrev pub IsNextTold : {D : Type 0} → Ghosts D → Course → Volume → List D → List Event → Type 0
+abbrev pub IsNextTold : {D : Type 0} → Ghosts D → RequestProgress → Volume → List D → List Event → Type 0
 IsNextTold G Unplayed v new h = Unit {0}
 IsNextTold G (Unopened index cause) v new h = Unit {0}
 IsNextTold G (Performed end later) v new h = IsTrue G.tells → LeavesNext end (MayBeResumed G.image v h new)
 
 -- The disks of the nodes, and behind them that of a journal. The faults of the nodes are told by the log with the records that were
 -- asked for after it.
-pub record AreAllBack {D : Type 0} (G : Ghosts D) (course : Course) (v : Volume) (lines : List Line) (lost : ℕ) (old new : List D) (h : List Event) : Type 0 where
+pub record AreAllBack {D : Type 0} (G : Ghosts D) (course : RequestProgress) (v : Volume) (lines : List Line) (lost : ℕ) (old new : List D) (h : List Event) : Type 0 where
   pub nodes : List D
   pub journal : D
   pub old_are : old ≡ nodes ++ journal ∷ []
@@ -155,19 +155,19 @@ pub record AreUsedAgain {D : Type 0} (G : Ghosts D) (end : PlayEnd) (v : Volume)
 
 -- Disks that were to be used again. Where no play began each has the text that it came with, each image is one from before, and no
 -- count of faults fell; and where one did not open, this is why.
-abbrev pub AreBackAgain : {D : Type 0} → Ghosts D → Course → Volume → List Line → ℕ → List D → List D → List Event → Type 0
+abbrev pub AreBackAgain : {D : Type 0} → Ghosts D → RequestProgress → Volume → List Line → ℕ → List D → List D → List Event → Type 0
 AreBackAgain G Unplayed v lines lost old new h = AreDisksBack G.meter G.text G.image old new
 AreBackAgain G (Unopened index cause) v lines lost old new h = AreDisksBack G.meter G.text G.image old new × IsCauseAgain G.tells G.meter G.text G.image v old new (Open index cause)
 AreBackAgain G (Performed end later) v lines lost old new h = AreUsedAgain G end v lines lost old new h
 
 -- the disks of a request that was played, which for `first` and `again` are one more than the nodes
-abbrev pub AreBackFrom : {D : Type 0} → Ghosts D → Course → Wish → Volume → List Line → (lost : ℕ) → List D → List D → List Event → Type 0
+abbrev pub AreBackFrom : {D : Type 0} → Ghosts D → RequestProgress → Wish → Volume → List Line → (lost : ℕ) → List D → List D → List Event → Type 0
 AreBackFrom G course First v lines lost old new h = AreAllBack G course v lines lost old new h
 AreBackFrom G course Again v lines lost old new h = AreBackAgain G course v lines lost old new h
 AreBackFrom G course _ v lines lost old new h = AreFaultsTold G.meter v old new (asked_in course ++ h) × AreImagesTold G course v old new h
 
 -- Where there is nothing to play the disks are as they came. Otherwise their images are told by the log, and their faults by the log
 -- with the records that were asked for after it.
-abbrev pub HandsBack : {D : Type 0} → Ghosts D → Course → Result Request Stop → (lost : ℕ) → List D → List D → List Event → Type 0
+abbrev pub HandsBack : {D : Type 0} → Ghosts D → RequestProgress → Result Request Stop → (lost : ℕ) → List D → List D → List Event → Type 0
 HandsBack G course (Ok r) lost old new h = AreBackFrom G course r.wish r.script.volume r.script.lines lost old new h
 HandsBack G course (Err stop) lost old new h = new ≡ old

@@ -9,20 +9,20 @@ use Rattle.rz_request.specs.Requests.{Asks, Reading}
 use Rattle.rz_request.specs.declared.refusal.Stop.{Stop}
 use Rattle.rz_request.specs.declared.wishes.Request.{Request}
 use Rattle.rz_report.specs.Output.{Sunk}
-use Rattle.rz_report.specs.Replays.{Course, Ensues, FollowsRequest}
+use Rattle.rz_report.specs.Replays.{RequestProgress, Ensues, FollowsRequest}
 use Rattle.rz_replay.specs.Disks.{HandsBack, faulted}
 use Rattle.rz_replay.specs.Migrations.{IsMigrationTold}
 
 -- A request is played over disks, before and after, with a link that lost so many messages and a sink; and the disks are handed back.
 abbrev pub PlaysRequest : {D : Type 0} → Ghosts D → Request → List D → List D → (lost : ℕ) → Sunk → ℕ → List Event → Type 0
 PlaysRequest G r old new lost sink status h =
-    (course : Course) × FollowsRequest G.tells course r (faulted G.meter old new) lost sink status h × HandsBack G course (Ok r) lost old new h
+    (course : RequestProgress) × FollowsRequest G.tells course r (faulted G.meter old new) lost sink status h × HandsBack G course (Ok r) lost old new h
 
 -- A play at words of this meaning, over a source, disks before and after, a link that lost so many messages, and a sink: what the
 -- words and the source ask for of so many disks is answered, and played; and the disks are handed back.
 abbrev pub PlaysReplay : {D : Type 0} → Ghosts D → Option Meaning → Reading → List D → List D → (lost : ℕ) → Sunk → ℕ → List Event → Type 0
 PlaysReplay G words source old new lost sink status h =
-    (r : Result Request Stop) × (course : Course) × Asks words source (length old) r
+    (r : Result Request Stop) × (course : RequestProgress) × Asks words source (length old) r
     × Ensues G.tells course r (faulted G.meter old new) lost sink status h × HandsBack G course r lost old new h
 
 -- the node of which a command wants the old disk carried over

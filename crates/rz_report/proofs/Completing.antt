@@ -14,7 +14,7 @@ use Rattle.rz_play.specs.Played.{StopsLinesOver}
 use Rattle.rz_player.specs.Ends.{IsEnded, IsEndedOver}
 use Rattle.rz_player.specs.declared.lines.PlayEnd.{PlayEnd}
 use Rattle.rz_player.specs.declared.lines.PlayEnd.TheVariants as ends
-use Rattle.rz_request.specs.Requests.{Asks, Reading, AsksFor, IsRequestFor, Reads, disks_for, nodes_in, script_in}
+use Rattle.rz_request.specs.Requests.{Asks, Reading, AsksFor, IsRequestFor, ReadsRequest, disks_for, nodes_in, script_in}
 use Rattle.rz_request.specs.declared.refusal.Stop.{Stop}
 use Rattle.rz_request.specs.declared.refusal.Stop.TheVariants as stops
 use Rattle.rz_request.specs.declared.wishes.Request.{Request}
@@ -22,14 +22,14 @@ use Rattle.rz_request.specs.declared.wishes.Wish.{Wish}
 use Rattle.rz_request.specs.declared.wishes.Wish.TheVariants as wishes
 use Rattle.rz_report.specs.Output.{Sunk, Lacks}
 use Rattle.rz_report.specs.Telling.{Tells, Performs, PerformsAs, TellsOwn}
-use Rattle.rz_report.specs.Replays.{Faulted, Course, Unplayed, Unopened, Performed, HasJournal, MayEnd, Opens, Ensues}
+use Rattle.rz_report.specs.Replays.{Faulted, RequestProgress, Unplayed, Unopened, Performed, HasJournal, MayEnd, Opens, Ensues}
 use Rattle.rz_report.specs.Clear.{Means, IsPlayable, IsReplayFinished, IsFinishedAgain, ReplayCompletes, IsCompleteAgain}
 use Rattle.rz_report.proofs.Asked.{HasCome, judged, has-come}
 
 -- What is asked for.
 
-module _ (words : Option Meaning) (source : Reading) (count : ℕ) (disks : Faulted) (course : Course) (sink : Sunk) (s : Script) (result : Result Request Stop) where
-  from-text : (wish : Wish) → IsPlayable words source count disks course sink wish s → Means wishes.Replay source.before s → Reads source wish count result → HasCome s (script_in result)
+module _ (words : Option Meaning) (source : Reading) (count : ℕ) (disks : Faulted) (course : RequestProgress) (sink : Sunk) (s : Script) (result : Result Request Stop) where
+  from-text : (wish : Wish) → IsPlayable words source count disks course sink wish s → Means wishes.Replay source.before s → ReadsRequest source wish count result → HasCome s (script_in result)
   from-text wish playable (text, left, short, means) reads =
       has-come forms.Replay source (disks_for wish) count s playable.source_whole text left short means playable.small playable.fits (script_in result) reads
 
@@ -62,7 +62,7 @@ only-first wishes.Again anew has = absurd (anew refl)
 
 module _ (tells : Bool) (disks : Faulted) (lost : ℕ) (sink : Sunk) (status : ℕ) (h : List Event) (s : Script) (sink_whole : ¬ Rises sink.old sink.new) where
   -- of a request that came, what follows; or memory was wanting
-  ensued : (Goal : Type 0) (wish : Wish) (course : Course) (result : Result Request Stop) → ((r : Request) → r.script ≡ s → r.wish ≡ wish → Opens tells course r disks lost sink status h → Goal ⊎ Lacks sink status)
+  ensued : (Goal : Type 0) (wish : Wish) (course : RequestProgress) (result : Result Request Stop) → ((r : Request) → r.script ≡ s → r.wish ≡ wish → Opens tells course r disks lost sink status h → Goal ⊎ Lacks sink status)
       → HasCome s (script_in result) → IsRequestFor wish result → Ensues tells course result disks lost sink status h → Goal ⊎ Lacks sink status
   ensued Goal wish course (Ok r) follows came for e = follows r came for e.0
   ensued Goal wish course (Err stops.NoMemory) follows came for e = inr e.0
@@ -109,7 +109,7 @@ module _ (tells : Bool) (disks : Faulted) (lost : ℕ) (sink : Sunk) (status : �
     performed-as wishes.First end later new p = p
     performed-as wishes.Again end later new p = absurd (new refl)
 
-    followed : (course : Course) → (course ≡ Unplayed → (i : ℕ) → ¬ HasRisen (disks.old i) (disks.new i)) → ((later : List Event) → ¬ (course ≡ Performed ends.JournalFull later)) → (r : Request) → r.script ≡ s → r.wish ≡ wish
+    followed : (course : RequestProgress) → (course ≡ Unplayed → (i : ℕ) → ¬ HasRisen (disks.old i) (disks.new i)) → ((later : List Event) → ¬ (course ≡ Performed ends.JournalFull later)) → (r : Request) → r.script ≡ s → r.wish ≡ wish
         → Opens tells course r disks lost sink status h → IsReplayFinished tells wish s lost sink status h ⊎ Lacks sink status
     followed Unplayed formatted room r script_is wish_is (inl lacks) = inr lacks.0
     followed Unplayed formatted room r script_is wish_is (inr failed) = absurd (formatted refl failed.0 (has-risen (disks.old failed.0) (disks.new failed.0) failed.2))
@@ -145,7 +145,7 @@ module _ (tells : Bool) (disks : Faulted) (lost : ℕ) (sink : Sunk) (status : �
   failed ends.NoMemory r script_is whole may is = cc
   failed ends.JournalFull r script_is whole may is = cc
 
-  gone-on : (course : Course) → (course ≡ Unplayed → (i : ℕ) → ¬ HasRisen (disks.old i) (disks.new i)) → ((index cause : ℕ) → ¬ (course ≡ Unopened index cause))
+  gone-on : (course : RequestProgress) → (course ≡ Unplayed → (i : ℕ) → ¬ HasRisen (disks.old i) (disks.new i)) → ((index cause : ℕ) → ¬ (course ≡ Unopened index cause))
       → ((end : PlayEnd) (later : List Event) → course ≡ Performed end later → ¬ (end ≡ ends.TooManyTurns) × ¬ (end ≡ ends.JournalFull)) → ¬ HasRisen (disks.old (nodes_in s)) (disks.new (nodes_in s)) → (r : Request) → r.script ≡ s → r.wish ≡ wishes.Again
       → Opens tells course r disks lost sink status h → IsFinishedAgain course sink status h ⊎ Lacks sink status
   gone-on Unplayed formatted opened uncut whole r script_is wish_is (inl lacks) = inr lacks.0

@@ -25,7 +25,7 @@ use Rattle.rz_scrub_report.specs.Scrubs.{AreListed, AreFindingsTold, AreUnaltere
 use Rattle.rz_scrub_report.specs.Stores.{HasAsked, AreBinsRead, State}
 use Rattle.rz_report.specs.Output.{Lacks, Sunk}
 use Rattle.rz_report.specs.Telling.{IsPlayOf, PerformsBehind, Says}
-use Rattle.rz_report.specs.Scrubs.{AreFoundFrom, HoldsOfCounts, Finds, IsFoundIn, IsScrubbable, IsSought, BetweenTurns, LeavesStore, anything, seen_in}
+use Rattle.rz_report.specs.Scrubs.{AreFoundFrom, HoldsOfCounts, FindsRecords, IsFoundIn, IsScrubbable, IsSought, BetweenTurns, LeavesStore, anything, seen_in}
 
 -- What was found with some knowledge of what disks give was found, whatever they give.
 
@@ -93,7 +93,7 @@ module _ {S : Type 0} (tells : Bool) (volume : S → Volume) (world : S → Worl
   sought : {A E : Type 0} (items : A → List ℕ) (old new : S) (result : Result A E)
       → ((b : Before) → holds old b → (let h = (world old).log ++ b.log in (text : List ℕ) (next : State) → IsScrubbed (described old).layout (gives old) (state old h) text next → IsTrue tells → Unaltered old h text))
       → HasAsked is_open described gives state counts only_asked old new (λ w next. IfOk result (λ (text : A). IsScrubbed (described old).layout (gives old) w (items text) next))
-      → Finds tells volume world journaled holds counts only_asked Ended Scrub old new (λ p. IfOk result (λ (lines : A). p (items lines)))
+      → FindsRecords tells volume world journaled holds counts only_asked Ended Scrub old new (λ p. IfOk result (λ (lines : A). p (items lines)))
   sought items old new result sure asked = record {
     later = asked.later;
     may = asked.asks;
@@ -111,9 +111,9 @@ module _ {S : Type 0} (tells : Bool) (volume : S → Volume) (world : S → Worl
       → (blocks : List Listed) × AreListed w.export None blocks × AreUnaltered (described old).layout blocks text)
       → is_ready old → length (world old).log ≤ 2 ^ 62
       → HasAsked is_open described gives state counts only_asked old new (λ w next. IfOk result (λ (text : A). IsScrubbed (described old).layout (gives old) w (items text) next))
-      → Finds tells volume world journaled holds counts only_asked end wish old new (λ p. IfOk result (λ (lines : A). p (items lines)))
+      → FindsRecords tells volume world journaled holds counts only_asked end wish old new (λ p. IfOk result (λ (lines : A). p (items lines)))
   sought_here {A = A} items end wish old new result end_is wish_is law ready few asked =
-      let F : PlayEnd → Wish → Type 0 = λ e w. Finds tells volume world journaled holds counts only_asked e w old new (λ p. IfOk result (λ (lines : A). p (items lines))) in
+      let F : PlayEnd → Wish → Type 0 = λ e w. FindsRecords tells volume world journaled holds counts only_asked e w old new (λ p. IfOk result (λ (lines : A). p (items lines))) in
       subst (λ (e : PlayEnd). F e wish) (sym end_is) (subst (λ (w : Wish). F Ended w) (sym wish_is)
       (sought items old new result
       (λ b held text next told telling. law (state old ((world old).log ++ b.log)) next text (scrubbable.whole old b ready held telling (all-few b (scrubbable.short old b held))) told) asked))
@@ -164,7 +164,7 @@ any-end journaled why JournalFull is = cc
 -- what is left of the stage
 leaves_so : {S : Type 0} (tells : Bool) (volume : S → Volume) (world : S → World) (journaled : S → Bool) (holds : S → Before → Type 0) (leaves : S → Option Call → Before → Type 0) (counts : S → List Event → (ℕ → ℕ) → Type 0) (only_asked : S → S → Type 0)
     (stops : List Event → Call → Before → Type 0) (end : PlayEnd) (wish : Wish) (first played last : S) (IfFound : (List ℕ → Type 0) → Type 0) → IsCut end (holds first) (leaves played) (stops (world played).log) → (end ≡ Ended → StaysTrue (holds first) (holds played))
-    → (end ≡ TooManyTurns → StaysTrue (holds first) (holds played)) → (f : Finds tells volume world journaled holds counts only_asked end wish played last IfFound) → LeavesStore world holds leaves counts only_asked (stops (world last).log) end wish first last f.later
+    → (end ≡ TooManyTurns → StaysTrue (holds first) (holds played)) → (f : FindsRecords tells volume world journaled holds counts only_asked end wish played last IfFound) → LeavesStore world holds leaves counts only_asked (stops (world last).log) end wish first last f.later
 leaves_so {S} tells volume world journaled holds leaves counts only_asked stops end wish first played last IfFound left held stopped f = so f.left
   where
     so : ((f.later ≡ []) × (last ≡ played)) ⊎ ((end ≡ Ended) × (wish ≡ Scrub) × only_asked played last × HoldsOfCounts (holds played) (counts last (f.later ++ (world played).log))) → LeavesStore world holds leaves counts only_asked (stops (world last).log) end wish first last f.later
@@ -179,7 +179,7 @@ leaves_so {S} tells volume world journaled holds leaves counts only_asked stops 
 -- a play, and what was sought after it, as a performance
 module _ {S : Type 0} (tells : Bool) (volume : S → Volume) (world : S → World) (journaled : S → Bool) (was : Bool) (cut_off : S → PlayEnd) (holds : S → Before → Type 0) (leaves : S → Option Call → Before → Type 0) (counts : S → List Event → (ℕ → ℕ) → Type 0)
     (only_asked : S → S → Type 0) (stops : List Event → Call → Before → Type 0) (v : Volume) (lines : List Line) (wish : Wish) (lost : ℕ) (end : PlayEnd) (first played last : S) where
-  cut_so : (IfFound : (List ℕ → Type 0) → Type 0) → Finds tells volume world journaled holds counts only_asked end wish played last IfFound → EndsBy was (cut_off played) end → EndsBy was (cut_off last) end
+  cut_so : (IfFound : (List ℕ → Type 0) → Type 0) → FindsRecords tells volume world journaled holds counts only_asked end wish played last IfFound → EndsBy was (cut_off played) end → EndsBy was (cut_off last) end
   cut_so IfFound f cut = so f.left
     where
       so : ((f.later ≡ []) × (last ≡ played)) ⊎ ((end ≡ Ended) × (wish ≡ Scrub) × only_asked played last × HoldsOfCounts (holds played) (counts last (f.later ++ (world played).log))) → EndsBy was (cut_off last) end
@@ -190,7 +190,7 @@ module _ {S : Type 0} (tells : Bool) (volume : S → Volume) (world : S → Worl
       → (end ≡ Ended → (b : Before) → holds first b → PlaysLinesOver v lines tells (behind b.log (world first)) (behind b.log (world played)))
       → volume played ≡ v → EndsBy was (cut_off played) end → IsCut end (holds first) (leaves played) (stops (world played).log)
       → (end ≡ Ended → StaysTrue (holds first) (holds played)) → (end ≡ TooManyTurns → StaysTrue (holds first) (holds played))
-      → (IfFound : (List ℕ → Type 0) → Type 0) (f : Finds tells volume world journaled holds counts only_asked end wish played last IfFound) (sink : Sunk) (status : ℕ)
+      → (IfFound : (List ℕ → Type 0) → Type 0) (f : FindsRecords tells volume world journaled holds counts only_asked end wish played last IfFound) (sink : Sunk) (status : ℕ)
       → ((found : List ℕ) × IsSought (holds played) tells (volume played) (world played) end wish f.later found × Says end wish found (reverse (world last).log) sink status)
       ⊎ Lacks sink status
       → (e : PlayEnd) × (later : List Event) × LeavesStore world holds leaves counts only_asked (stops (world last).log) e wish first last later × EndsBy was (cut_off last) e

@@ -23,7 +23,7 @@ use Rattle.rz_request.specs.declared.wishes.Request.{Request}
 use Rattle.rz_request.specs.declared.wishes.Wish.{Wish}
 use Rattle.rz_request.specs.declared.wishes.Wish.TheVariants as wishes
 use Rattle.rz_report.specs.Output.{Sunk, Lacks}
-use Rattle.rz_report.specs.Replays.{Faulted, Course, Unplayed, Unopened, Performed, Ensues}
+use Rattle.rz_report.specs.Replays.{Faulted, RequestProgress, Unplayed, Unopened, Performed, Ensues}
 use Rattle.rz_report.specs.Scrubs.{AreScrubsFound}
 use Rattle.rz_report.specs.Telling.{text_told}
 
@@ -35,7 +35,7 @@ Means wish left s = (text : List ℕ) × (left ≡ Some text) × (length text �
 
 -- The words wish for a play of the script, which is within the limits and has the disks that it needs. Neither the source nor the sink
 -- counted a fault, nor did a disk while it was formatted, which is where no play began.
-pub record IsPlayable (words : Option Meaning) (source : Reading) (count : ℕ) (disks : Faulted) (course : Course) (sink : Sunk) (wish : Wish) (s : Script) : Type 0 where
+pub record IsPlayable (words : Option Meaning) (source : Reading) (count : ℕ) (disks : Faulted) (course : RequestProgress) (sink : Sunk) (wish : Wish) (s : Script) : Type 0 where
   pub wanted : wished words ≡ Some wish
   pub means : Means wish source.before s
   pub small : is_large s ≡ false
@@ -49,7 +49,7 @@ pub record IsPlayable (words : Option Meaning) (source : Reading) (count : ℕ) 
 -- Nothing stands in the way of such a play: none of the script on a new volume, over disks that tell their texts or that do not, calls
 -- for a turn too many. Where there is a journal, its disk, which is behind those of the nodes, counted no fault, and no call found it
 -- full.
-pub record IsReplayClear (tells : Bool) (words : Option Meaning) (source : Reading) (count : ℕ) (disks : Faulted) (course : Course) (sink : Sunk) (wish : Wish) (s : Script) : Type 0 where
+pub record IsReplayClear (tells : Bool) (words : Option Meaning) (source : Reading) (count : ℕ) (disks : Faulted) (course : RequestProgress) (sink : Sunk) (wish : Wish) (s : Script) : Type 0 where
   pub playable : IsPlayable words source count disks course sink wish s
   pub anew : wish ≢ wishes.Again
   pub turns : (last : World) → ¬ StopsLinesOver s.volume TurnsSpent s.lines tells (new_world s.volume) last
@@ -70,7 +70,7 @@ pub record IsReplayFinished (tells : Bool) (wish : Wish) (s : Script) (lost : �
 -- Where nothing stands in its way, a replay that begins anew plays the script to its end, or memory is wanting: the answer to what is
 -- asked for, and what comes of it, leave nothing else.
 abbrev pub ReplayCompletes : Type 0
-ReplayCompletes = (tells : Bool) (words : Option Meaning) (source : Reading) (count : ℕ) (disks : Faulted) (lost : ℕ) (sink : Sunk) (status : ℕ) (h : List Event) (course : Course) (r : Result Request Stop)
+ReplayCompletes = (tells : Bool) (words : Option Meaning) (source : Reading) (count : ℕ) (disks : Faulted) (lost : ℕ) (sink : Sunk) (status : ℕ) (h : List Event) (course : RequestProgress) (r : Result Request Stop)
     → Asks words source count r → Ensues tells course r disks lost sink status h
     → (wish : Wish) (s : Script) → IsReplayClear tells words source count disks course sink wish s → IsReplayFinished tells wish s lost sink status h ⊎ Lacks sink status
 
@@ -78,7 +78,7 @@ ReplayCompletes = (tells : Bool) (words : Option Meaning) (source : Reading) (co
 
 -- Nothing stands in its way: all disks opened, the journal's, which is behind those of the nodes, counted no fault, and neither a turn
 -- too many nor the journal's want of room cut the play off.
-pub record IsClearAgain (words : Option Meaning) (source : Reading) (count : ℕ) (disks : Faulted) (course : Course) (sink : Sunk) (s : Script) : Type 0 where
+pub record IsClearAgain (words : Option Meaning) (source : Reading) (count : ℕ) (disks : Faulted) (course : RequestProgress) (sink : Sunk) (s : Script) : Type 0 where
   pub playable : IsPlayable words source count disks course sink wishes.Again s
   pub opened : (index cause : ℕ) → ¬ (course ≡ Unopened index cause)
   pub turns : (later : List Event) → ¬ (course ≡ Performed TooManyTurns later)
@@ -86,13 +86,13 @@ pub record IsClearAgain (words : Option Meaning) (source : Reading) (count : ℕ
   pub room : (later : List Event) → ¬ (course ≡ Performed JournalFull later)
 
 -- the status is 0, the play came to its end, no records were asked for, and the sink took the whole text of the log of this play
-pub record IsFinishedAgain (course : Course) (sink : Sunk) (status : ℕ) (h : List Event) : Type 0 where
+pub record IsFinishedAgain (course : RequestProgress) (sink : Sunk) (status : ℕ) (h : List Event) : Type 0 where
   pub status_is : status ≡ 0
   pub ended : course ≡ Performed Ended []
   pub taken : Appends sink.before sink.after (text_of (reverse h) true)
 
 -- Where nothing stands in its way, a replay that goes on after earlier runs comes to its end, or memory is wanting.
 abbrev pub IsCompleteAgain : Type 0
-IsCompleteAgain = (tells : Bool) (words : Option Meaning) (source : Reading) (count : ℕ) (disks : Faulted) (lost : ℕ) (sink : Sunk) (status : ℕ) (h : List Event) (course : Course) (r : Result Request Stop)
+IsCompleteAgain = (tells : Bool) (words : Option Meaning) (source : Reading) (count : ℕ) (disks : Faulted) (lost : ℕ) (sink : Sunk) (status : ℕ) (h : List Event) (course : RequestProgress) (r : Result Request Stop)
     → Asks words source count r → Ensues tells course r disks lost sink status h
     → (s : Script) → IsClearAgain words source count disks course sink s → IsFinishedAgain course sink status h ⊎ Lacks sink status

@@ -24,10 +24,10 @@ pub record Faulted : Type 0 where
 
 -- How far a request came: no play of it began, or none since the disk with this index does not open again, for a cause with this
 -- number; or its script was played to this end, and then these records were asked for.
-pub data Course : Type 0 where
-  Unplayed : Course
-  Unopened : (index cause : ℕ) → Course
-  Performed : (end : PlayEnd) (later : List Event) → Course
+pub data RequestProgress : Type 0 where
+  Unplayed : RequestProgress
+  Unopened : (index cause : ℕ) → RequestProgress
+  Performed : (end : PlayEnd) (later : List Event) → RequestProgress
 
 -- `first` and `again` alone have a journal
 abbrev pub HasJournal : Wish → Type 0
@@ -44,7 +44,7 @@ MayEnd _ r disks = Unit {0}
 -- A request that came so far, with so many messages lost by the link. No play began where memory was wanting, or where a disk
 -- that was not to be used again failed while it was formatted, and its faults rose. One that was to be used again may not open:
 -- then its line was to be written.
-abbrev pub Opens : Bool → Course → Request → Faulted → (lost : ℕ) → Sunk → ℕ → List Event → Type 0
+abbrev pub Opens : Bool → RequestProgress → Request → Faulted → (lost : ℕ) → Sunk → ℕ → List Event → Type 0
 Opens tells Unplayed r disks lost sink status h =
     (Lacks sink status × (h ≡ []))
     ⊎ ((index : ℕ) × (r.wish ≢ Again) × Rises (disks.old index) (disks.new index) × TellsRefusal (refusals.Disk index) sink status × (h ≡ []))
@@ -57,11 +57,11 @@ IsToldAs Again v lines lost h = Unit {0}
 IsToldAs wish v lines lost h = IsPlayReported v lines lost h
 
 -- A request is played. Over disks that tell their texts the log is true.
-abbrev pub FollowsRequest : Bool → Course → Request → Faulted → (lost : ℕ) → Sunk → ℕ → List Event → Type 0
+abbrev pub FollowsRequest : Bool → RequestProgress → Request → Faulted → (lost : ℕ) → Sunk → ℕ → List Event → Type 0
 FollowsRequest tells course r disks lost sink status h =
     Opens tells course r disks lost sink status h × (IsTrue tells → IsToldAs r.wish r.script.volume r.script.lines lost h)
 
 -- there is nothing to play, or a request that is played
-abbrev pub Ensues : Bool → Course → Result Request Stop → Faulted → (lost : ℕ) → Sunk → ℕ → List Event → Type 0
+abbrev pub Ensues : Bool → RequestProgress → Result Request Stop → Faulted → (lost : ℕ) → Sunk → ℕ → List Event → Type 0
 Ensues tells course (Ok r) disks lost sink status h = FollowsRequest tells course r disks lost sink status h
 Ensues tells course (Err stop) disks lost sink status h = Stops stop sink status × (h ≡ []) × (course ≡ Unplayed)

@@ -92,7 +92,7 @@ LeavesStore {S} world holds leaves counts only_asked stops end wish old new late
     ⊎ ((played : S) × (wish ≡ Scrub) × StaysTrue (holds old) (holds played) × only_asked played new × HoldsOfCounts (holds old) (counts new (later ++ (world new).log)))
 
 -- What came of a stage whose play ended so, and of the lines where there are some.
-pub record Finds {S : Type 0} (tells : Bool) (volume : S → Volume) (world : S → World) (journaled : S → Bool) (holds : S → Before → Type 0) (counts : S → List Event → (ℕ → ℕ) → Type 0) (only_asked : S → S → Type 0)
+pub record FindsRecords {S : Type 0} (tells : Bool) (volume : S → Volume) (world : S → World) (journaled : S → Bool) (holds : S → Before → Type 0) (counts : S → List Event → (ℕ → ℕ) → Type 0) (only_asked : S → S → Type 0)
     (end : PlayEnd) (wish : Wish) (old new : S) (IfFound : (List ℕ → Type 0) → Type 0) : Type 0 where
   pub later : List Event
   pub may : ScrubMayAsk end wish later

@@ -2,7 +2,7 @@
 
 ghost use Rattle.std.specs.Prelude.{◌≡◌, ◌≤◌, ◌^◌, IsTrue, IfOk, length};
 ghost use Rattle.rz_player.specs.declared.lines.PlayEnd.TheVariants.{Ended};
-ghost use Rattle.rz_report.specs.Scrubs.{Finds, IsScrubbable};
+ghost use Rattle.rz_report.specs.Scrubs.{FindsRecords, IsScrubbable};
 
 use rz_events::Event;
 use rz_player::{LoggedStage, PlayEnd};
@@ -27,7 +27,7 @@ pub(crate) fn find<S: LoggedStage + ScrubbedStore>(
 ) -> Result<Vec<u8>, AllocError>
     requires ready { end ≡ Ended → S.is_ready stage.old }
     requires stage { IsScrubbable S.tells S.volume S.world S.journaled S.is_ready S.holds S.described S.state S.is_open S.gives S.counts S.only_asked }
-    ensures { Finds S.tells S.volume S.world S.journaled S.holds S.counts S.only_asked end wish stage.old stage.new (λ p. IfOk result (λ lines. p lines.items)) }
+    ensures { FindsRecords S.tells S.volume S.world S.journaled S.holds S.counts S.only_asked end wish stage.old stage.new (λ p. IfOk result (λ lines. p lines.items)) }
 {
     match wish {
         Wish::Replay | Wish::First => Ok(Vec::new(alloc)),

@@ -101,8 +101,8 @@ ReadsScript form source needs disks (Err (stops.Refused refusals.Long)) = IfSome
 ReadsScript form source needs disks result = (text : List ℕ) × IsInputRead source text × JudgesScript (script form text) needs disks result
 
 -- the same of a request for a wish
-abbrev pub Reads : Reading → Wish → ℕ → Result Request Stop → Type 0
-Reads source wish disks result = ReadsScript forms.Replay source (disks_for wish) disks (script_in result)
+abbrev pub ReadsRequest : Reading → Wish → ℕ → Result Request Stop → Type 0
+ReadsRequest source wish disks result = ReadsScript forms.Replay source (disks_for wish) disks (script_in result)
 
 -- the script of all that was left of a source; or why there is none, whatever disks there are
 abbrev pub HasScript : Form → Reading → Result Script Stop → Type 0
@@ -121,7 +121,7 @@ IsUsage m result = result ≡ Err (stops.Refused refusals.Usage)
 abbrev pub AsksFor : Option Wish → Option Meaning → Reading → ℕ → Result Request Stop → Type 0
 AsksFor None m source disks result = IsUsage m result × IsUnread source
 AsksFor (Some (wishes.Load seed)) m source disks result = Judges (Ok (workload seed)) (wishes.Load seed) disks result × IsRequestFor (wishes.Load seed) result × IsUnread source
-AsksFor (Some wish) m source disks result = Reads source wish disks result × IsRequestFor wish result
+AsksFor (Some wish) m source disks result = ReadsRequest source wish disks result × IsRequestFor wish result
 
 -- What words of this meaning ask for: words that wish for nothing are refused as usage, with the source unread; a load is of the
 -- workload of its seed, with the source unread; and the other plays are of the script of the source.

@@ -3,7 +3,7 @@
 ghost use Rattle.std.specs.Prelude.{◌≡◌, map, string_bytes};
 ghost use Rattle.rz_request.specs.Line.{meaning};
 ghost use Rattle.rz_generate.specs.Workload.{workload};
-ghost use Rattle.rz_request.specs.Requests.{Asks, IsRequestFor, IsWished, Judges, Reads, disks_for as needed_for, wish_of as wish_in};
+ghost use Rattle.rz_request.specs.Requests.{Asks, IsRequestFor, IsWished, Judges, ReadsRequest, disks_for as needed_for, wish_of as wish_in};
 ghost use Rattle.rz_request.specs.declared.wishes.Wish.TheVariants as wishes;
 
 use crate::reading::{fit, read_script};
@@ -45,7 +45,7 @@ fn read_input<I: Source>(
     input: &mut I,
     disks: u64,
 ) -> Result<Request, Stop>
-    ensures asked { Reads (record { before = I.left input.old; after = I.left input.new; old = I.faults input.old; new = I.faults input.new }) wish disks result }
+    ensures asked { ReadsRequest (record { before = I.left input.old; after = I.left input.new; old = I.faults input.old; new = I.faults input.new }) wish disks result }
     ensures wish { IsRequestFor wish result }
 {
     match read_script(alloc, Form::Replay, input) {

@@ -14,7 +14,7 @@ use Rattle.rz_node_model.specs.States.{NodeState}
 use Rattle.rz_node_model.specs.Answers.{IsNodeAnswer}
 use Rattle.rz_node.specs.Change.{IsBranch}
 use Rattle.rz_node.specs.Opens.{IfStarted, IfTook}
-use Rattle.rz_node.specs.Leaves.{Leaves, Starts}
+use Rattle.rz_node.specs.Leaves.{LeavesDisk, Starts}
 use Rattle.rz_core.specs.History.{Facts}
 use Rattle.rz_node_laws.specs.Images.{IsImaged}
 use Rattle.rz_node_laws.specs.Laws.{IsFetchLaw}
@@ -30,6 +30,6 @@ starts T t g s text text' image image' (start.Unopened cause) settled branch sam
 
 -- what a fetch gives is the record of its write
 pub read : {D : Type 0} (text : D → List ℕ) (image : D → List ℕ → Type 0) → IsFetchLaw text image → (v : Volume) (f : Facts) (n cells : ℕ) (g : Geometry) (s : NodeState) (question : NodeAsk) (given : NodeAnswer) (bins bins' : List ℕ) (old new : D)
-    → IsNodeAnswer cells s question given → Leaves g s question given bins bins' (text old) (text new) (image old) (image new) → IsImaged v f n s g (image old) → IsTrueRecord v f n question given bins bins'
+    → IsNodeAnswer cells s question given → LeavesDisk g s question given bins bins' (text old) (text new) (image old) (image new) → IsImaged v f n s g (image old) → IsTrueRecord v f n question given bins bins'
 read text image law v f n cells g s (ask.Fetch key position stamp) (answer.Fetch (fetch.Held told)) bins bins' old new is leaves imaged = law v f n cells g s key position stamp told bins bins' old new is leaves imaged
 read text image law v f n cells g s question given bins bins' old new is leaves imaged = tt

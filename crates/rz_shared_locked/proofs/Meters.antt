@@ -19,7 +19,7 @@ use Rattle.rz_node_model.specs.Afterwards.{after_answer, after_start}
 use Rattle.rz_node_model.specs.NodeEvents.{node_event, start_event}
 use Rattle.rz_node.specs.Opens.{Opens, IfStarted, UnlessStarted}
 use Rattle.rz_node.specs.View.{NodeView}
-use Rattle.rz_node.specs.Calls.{Counts, IsNoStart}
+use Rattle.rz_node.specs.Calls.{CountsCall, IsNoStart}
 use Rattle.rz_node.specs.Calls as calls
 use Rattle.rz_play.specs.Faults.{fuse_of}
 use Rattle.rz_play.specs.Lines.{noted}
@@ -54,7 +54,7 @@ module _ {D : Type 0} (meter : D → Meter) where
 
   -- one that answered any call but a start
   pub call-goes : IsFaultLaw → (first n k cells : ℕ) (w : List Event) (by : Actor) (question : NodeAsk) (given : NodeAnswer) (node node' : NodeView D) → calls.IsNoStart question → IsNodeAnswer cells node.state question given
-      → node'.state ≡ after_answer question given node.state → Counts k given (meter node.disk) (meter node'.disk) → GoesWith meter first w node → GoesWith meter first (noted (node_event by n question given) w) node'
+      → node'.state ≡ after_answer question given node.state → CountsCall k given (meter node.disk) (meter node'.disk) → GoesWith meter first w node → GoesWith meter first (noted (node_event by n question given) w) node'
   call-goes law first n k cells w by question given node node' no_start is after counts was =
       let rose = counts-last k cells question given node.state (meter node.disk) (meter node'.disk) (no-start question no_start) is counts in
       record {

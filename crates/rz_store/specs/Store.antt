@@ -11,7 +11,7 @@ use Rattle.rz_contents.specs.Model.{Model, model_of, IsSame}
 use Rattle.rz_contents.specs.Putting.{model_put}
 use Rattle.rz_contents.specs.Files as files
 use Rattle.rz_contents.specs.Files.{IsFileAt, key_in}
-use Rattle.rz_contents.specs.Ranges.{HasBytes, AreBytes}
+use Rattle.rz_contents.specs.Ranges.{WritesBytes, ReadsBytes}
 
 -- What contracts see of a store in hand: the volume, and the log of all runs, which has the newest event first.
 pub record StoreView : Type 0 where
@@ -58,7 +58,7 @@ names_written fid offset count t = cond (nat_lt 0 count) (grown t fid (offset + 
 pub record IsWritten (old : StoreView) (path : List ℕ) (offset : ℕ) (bytes : List ℕ) (new : StoreView) : Type 0 where
   pub file : Found
   pub at : IsFileAt (model_in old).names path file
-  pub written : HasBytes old.volume.layout (model_in old) file.fid offset bytes (model_in new)
+  pub written : WritesBytes old.volume.layout (model_in old) file.fid offset bytes (model_in new)
   pub names : (model_in new).names ≡ names_written file.fid offset (length bytes) (model_in old).names
 
 -- So many bytes at the front are written, or none, and nothing is changed.
@@ -68,14 +68,14 @@ IsUpTo old path offset (suc n) bytes new = (suc n ≤ length bytes) × IsWritten
 
 -- these are bytes of the file at the path from an offset on
 abbrev pub HasPart : StoreView → List ℕ → ℕ → List ℕ → Type 0
-HasPart s path offset bytes = (file : Found) × IsFileAt (model_in s).names path file × AreBytes s.volume.layout (model_in s) file.fid offset bytes
+HasPart s path offset bytes = (file : Found) × IsFileAt (model_in s).names path file × ReadsBytes s.volume.layout (model_in s) file.fid offset bytes
 
 -- These are the bytes of the file at the path from an offset on, as many as were wanted or as it has there.
 pub record IsRead (s : StoreView) (path : List ℕ) (offset wanted : ℕ) (bytes : List ℕ) : Type 0 where
   pub file : Found
   pub at : IsFileAt (model_in s).names path file
   pub many : length bytes ≡ min wanted (file.object.size - offset)
-  pub read : AreBytes s.volume.layout (model_in s) file.fid offset bytes
+  pub read : ReadsBytes s.volume.layout (model_in s) file.fid offset bytes
 
 -- Names.
 

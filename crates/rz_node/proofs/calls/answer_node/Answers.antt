@@ -7,7 +7,7 @@ use Rattle.rz_node_model.specs.Answers.{IsNodeAnswer}
 use Rattle.rz_node_model.specs.Afterwards.{after_answer}
 use Rattle.rz_events.specs.declared.records.Held.{Held}
 use Rattle.rz_node.specs.Fetched.{IsFetchedFromDisk}
-use Rattle.rz_node.specs.Leaves.{Leaves}
+use Rattle.rz_node.specs.Leaves.{LeavesDisk}
 use Rattle.rz_node.specs.View.{NodeView}
 use Rattle.rz_node.proofs.Leaving.{held-if, starts, unlooked, settled-start, settled-replace}
 use Rattle.rz_node.proofs.calls.answer_node.Goals as goal
@@ -31,7 +31,7 @@ pub returns-in-Fetch-clause-leaves : goal.returns-in-Fetch-clause-leaves
 returns-in-Fetch-clause-leaves g c tells =
     let n = c.args.node.now in
     let disk = c.fetch_into.new.self.disk in
-    subst (λ (q : NodeAsk). Leaves n.geometry n.state q (given.Fetch c.fetch_into.result) c.args.bins.now c.fetch_into.new.out (g.D.Disk.text n.disk) (g.D.Disk.text disk) (g.D.Disk.image n.disk) (g.D.Disk.image disk)) (sym c.in-Fetch.is) (
+    subst (λ (q : NodeAsk). LeavesDisk n.geometry n.state q (given.Fetch c.fetch_into.result) c.args.bins.now c.fetch_into.new.out (g.D.Disk.text n.disk) (g.D.Disk.text disk) (g.D.Disk.image n.disk) (g.D.Disk.image disk)) (sym c.in-Fetch.is) (
       c.fetch_into.ensures.within,
       held-if (IsTrue g.D.Disk.tells) (λ (told : Held). IsFetchedFromDisk n.geometry n.state.fence (g.D.Disk.text n.disk) c.in-Fetch.key told c.args.bins.now c.fetch_into.new.out) c.fetch_into.result c.fetch_into.ensures.bins tells,
     )
@@ -40,7 +40,7 @@ pub returns-in-Start-clause-leaves : goal.returns-in-Start-clause-leaves
 returns-in-Start-clause-leaves g c tells =
     let n = c.args.node.now in
     let disk = c.start.new.self.disk in
-    subst (λ (q : NodeAsk). Leaves n.geometry n.state q (given.Start c.start.result) c.args.bins.now c.args.bins.now (g.D.Disk.text n.disk) (g.D.Disk.text disk) (g.D.Disk.image n.disk) (g.D.Disk.image disk)) (sym c.in-Start.is)
+    subst (λ (q : NodeAsk). LeavesDisk n.geometry n.state q (given.Start c.start.result) c.args.bins.now c.args.bins.now (g.D.Disk.text n.disk) (g.D.Disk.text disk) (g.D.Disk.image n.disk) (g.D.Disk.image disk)) (sym c.in-Start.is)
     (starts (IsTrue g.D.Disk.tells) (g.D.Disk.text n.disk) (g.D.Disk.text disk) (g.D.Disk.image n.disk) (g.D.Disk.image disk) n.geometry n.state c.start.result tells
     c.start.ensures.text c.start.ensures.within c.start.ensures.settled c.start.ensures.branch)
 
