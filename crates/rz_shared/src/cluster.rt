@@ -23,7 +23,7 @@ ghost use Rattle.rz_chronicle.specs.Kinds.{IsFit, keeps_legal, volume_in};
 ghost use Rattle.rz_chronicle.specs.Holds.{Commits};
 ghost use Rattle.rz_shared_locked.specs.Adding.{MayBeNext};
 ghost use Rattle.rz_shared_locked.specs.LockedNodes.{MayAsk, IsAskerRight, Answered, IsTrueRecord};
-ghost use Rattle.rz_shared_locked.specs.LockedExports.{AreBytes, IsUnanswered, Replied};
+ghost use Rattle.rz_shared_locked.specs.LockedExports.{AreTextsOfBytes, IsUnanswered, AnswersCall};
 
 use crate::room::ClosingRoom;
 use crate::{LockedExport, LockedNode, Metering, Swap, SwapFault};
@@ -130,12 +130,12 @@ impl<D: Disk, J: Metering> Cluster<D, J> {
         requires actor { ¬ (pass.old.actor ≡ Actor.Admin) }
         requires may { IsTrue (keeps_legal J.kind) → IsProperCall (volume_in J.kind) (facts (pass.old.log ++ J.earlier)) (of_actor pass.old.actor (pass.old.log ++ J.earlier)) pass.old.actor (call_of call) }
         ensures same { (pass.new.actor ≡ pass.old.actor) × (pass.new.keys ≡ pass.old.keys) }
-        ensures replied { IfOk result (λ r. Replied J.kind J.earlier (call_of call.entry) r (export_event pass.old.actor (call_of call.entry) r) pass.old.keys pass.old.log pass.new.log) }
+        ensures replied { IfOk result (λ r. AnswersCall J.kind J.earlier (call_of call.entry) r (export_event pass.old.actor (call_of call.entry) r) pass.old.keys pass.old.log pass.new.log) }
         ensures unanswered { OnErr result (IsUnanswered J.kind J.earlier J.journal (call_of call.entry) pass.old.keys pass.old.log pass.new.log) }
 
         // Each text of the log is one of bytes.
-        ensures bytes { AreBytes pass.new.log }
-        ensures texts { IsTrue (keeps_legal J.kind) → AreBytes (pass.new.log ++ J.earlier) }
+        ensures bytes { AreTextsOfBytes pass.new.log }
+        ensures texts { IsTrue (keeps_legal J.kind) → AreTextsOfBytes (pass.new.log ++ J.earlier) }
 
         ensures fit { IsFit J.kind pass.new.log }
     {
@@ -148,7 +148,7 @@ impl<D: Disk, J: Metering> Cluster<D, J> {
         self.locked_export.lock(rt).refusal()
     }
 
-    /// AddsEvent an event of the caller's own word. It waits for nobody.
+    /// Adds an event of the caller's own word. It waits for nobody.
     pub fn finish(&self, book: &Book<J>, pass: &mut Pass<J>, event: &Event)
         requires member { ¬ (pass.old.actor ≡ Actor.Admin) }
         requires word { word_of event.now ≡ w.Own pass.old.actor }

@@ -10,7 +10,7 @@ ghost use Rattle.rz_metadata.specs.Stands.{export_in, is_journaled, CountsFaults
 ghost use Rattle.rz_restart_laws.specs.Calls.{changing_calls};
 ghost use Rattle.rz_chronicle.specs.Dealing.{new_word_token};
 ghost use Rattle.rz_chronicle.specs.Kinds.{keeps_legal, volume_in};
-ghost use Rattle.rz_shared_locked.specs.LockedExports.{AreBytes, faults_of};
+ghost use Rattle.rz_shared_locked.specs.LockedExports.{AreTextsOfBytes, faults_of};
 ghost use Rattle.rz_shared.specs.Seating.{IsArrivedReady};
 
 use crate::cluster::Cluster;
@@ -58,7 +58,7 @@ impl<D: Disk, J: Metering> Cluster<D, J> {
         requires counted { CountsFaults D.meter (faults_of J.journal) parts.metadata }
         requires tied { IsTrue (keeps_legal J.kind) → IsExport (volume_in J.kind) (facts J.earlier) (of_word w.Export J.earlier) (export_in parts.metadata) }
         requires stands { IsTrue (keeps_legal J.kind) → Stands D.tells D.meter D.image (faults_of J.journal) parts.metadata (changing_calls J.earlier) }
-        requires bytes { IsTrue (keeps_legal J.kind) → AreBytes J.earlier }
+        requires bytes { IsTrue (keeps_legal J.kind) → AreTextsOfBytes J.earlier }
         ensures volume { IfOk result (λ c. c ≡ volume_in J.kind) }
         ensures back { IfErr result (λ p. p ≡ parts) }
     {

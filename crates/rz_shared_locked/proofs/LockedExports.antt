@@ -20,7 +20,7 @@ use Rattle.rz_chronicle.specs.Kinds.{keeps_legal, volume_in}
 use Rattle.rz_chronicle.specs.Holds.{Commits}
 use Rattle.rz_chronicle.specs.Tokens.{mark}
 use Rattle.rz_shared_locked.specs.Adding.{MayBeNext}
-use Rattle.rz_shared_locked.specs.LockedExports.{Replied, event_given}
+use Rattle.rz_shared_locked.specs.LockedExports.{AnswersCall, event_given}
 use Rattle.rz_shared_locked.specs.Laws.{AreCallsAdded, IsLockedExportKept, IsLockedExportStep, IsReplyLaw}
 use Rattle.rz_shared_locked.proofs.Logs.{stays-fewer}
 use Rattle.rz_shared_locked.proofs.Replies.{event-of, reply-event}
@@ -73,7 +73,7 @@ module _ (kind : List ℕ) (earlier h : List Event) (by : Actor) (q : Call) (giv
     calls-after added keeps = subst (λ (g : List Event). changing_calls (g ++ earlier) ≡ calls_after given q (changing_calls (h ++ earlier))) (sym last)
         (added earlier h it.before by q given x (fit keeps) (subst (IsLegalAfter (volume_in kind) earlier) last (new_fit keeps)).0 it.later (it.stays (word_key Export) (inl refl)) (may keeps) is)
 
-    pub replied-so : Replied kind earlier q given (export_event by q given) ks h new
+    pub replied-so : AnswersCall kind earlier q given (export_event by q given) ks h new
     replied-so = record {
       adds = record {
         before = it.before;

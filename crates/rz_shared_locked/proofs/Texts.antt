@@ -14,14 +14,14 @@ use Rattle.rz_core.proofs.Wrote.{wrote-export}
 use Rattle.rz_chronicle.specs.Keys.{events_at, word_key}
 use Rattle.rz_chronicle.specs.Holds.{Commits}
 use Rattle.rz_chronicle.proofs.Same.{word-same}
-use Rattle.rz_shared_locked.specs.LockedExports.{AreBytes, HasBytes, event_given}
+use Rattle.rz_shared_locked.specs.LockedExports.{AreTextsOfBytes, IsCallOfBytes, event_given}
 
 -- a log with the same events of the export
-pub bytes-same : (old new : List Event) → events_at (word_key Export) new ≡ events_at (word_key Export) old → AreBytes old → AreBytes new
+pub bytes-same : (old new : List Event) → events_at (word_key Export) new ≡ events_at (word_key Export) old → AreTextsOfBytes old → AreTextsOfBytes new
 bytes-same old new same bytes s b is =
     bytes s b (sym (wrote-export old s) ∙ ap (λ (w : List Event). wrote w s) (sym (word-same Export new old same)) ∙ wrote-export new s ∙ is)
 
-pub bytes-none : AreBytes []
+pub bytes-none : AreTextsOfBytes []
 bytes-none s b is = absurd cc
 
 -- an event more
@@ -29,7 +29,7 @@ by-stamp : (key : Key) (stamp base : ℕ) (text : List ℕ) (by : Actor) (s : �
 by-stamp key stamp base text by s b bytes true is = let it : record { by = by; key = key; base = base; text = text } ≡ b = cc in subst (λ (w : Begun). All (λ x. x < 256) w.text) it bytes
 by-stamp key stamp base text by s b bytes false is = absurd cc
 
-event-bytes : (by : Actor) (q : Call) (given : Reply) → HasBytes q → (s : ℕ) (b : Begun) → begun_by s (event_given by q given) ≡ Some b → All (λ x. x < 256) b.text
+event-bytes : (by : Actor) (q : Call) (given : Reply) → IsCallOfBytes q → (s : ℕ) (b : Begun) → begun_by s (event_given by q given) ≡ Some b → All (λ x. x < 256) b.text
 event-bytes by (call.Begin key text) (reply.Begun stamp base) bytes s b is = by-stamp key stamp base text by s b bytes (s == stamp) is
 event-bytes by (call.Begin key text) (reply.Denied why) bytes s b is = absurd cc
 event-bytes by (call.Tree c) (reply.Tree r) bytes s b is = absurd cc
@@ -50,8 +50,8 @@ by-old : (old : Option Begun) (x : Event) (s : ℕ) (b : Begun) → ((c : Begun)
 by-old None x s b before now is = now b is
 by-old (Some c) x s b before now is = before b is
 
-pub bytes-after : (by : Actor) (q : Call) (given : Reply) (ks : List ℕ) (old new : List Event) → HasBytes q → AreBytes old → Commits (word_key Export ∷ ks) old (event_given by q given) new → AreBytes new
-bytes-after by q given ks old new has bytes it = subst AreBytes (sym it.last)
+pub bytes-after : (by : Actor) (q : Call) (given : Reply) (ks : List ℕ) (old new : List Event) → IsCallOfBytes q → AreTextsOfBytes old → Commits (word_key Export ∷ ks) old (event_given by q given) new → AreTextsOfBytes new
+bytes-after by q given ks old new has bytes it = subst AreTextsOfBytes (sym it.last)
     (λ s b is. by-old (wrote it.before s) (event_given by q given) s b (bytes-same old it.before (it.stays (word_key Export) (inl refl)) bytes s) (event-bytes by q given has s) is)
 
 -- an earlier log behind it
@@ -68,7 +68,7 @@ wrote-behind [] earlier s = go (wrote earlier s)
     go (Some x) = refl
 wrote-behind (x ∷ log) earlier s = ap (λ (o : Option Begun). first_some o (begun_by s x)) (wrote-behind log earlier s) ∙ first-assoc (wrote earlier s) (wrote log s) (begun_by s x)
 
-pub bytes-behind : (log earlier : List Event) → AreBytes log → AreBytes earlier → AreBytes (log ++ earlier)
+pub bytes-behind : (log earlier : List Event) → AreTextsOfBytes log → AreTextsOfBytes earlier → AreTextsOfBytes (log ++ earlier)
 bytes-behind log earlier now before s b is = go (wrote earlier s) refl (sym (wrote-behind log earlier s) ∙ is)
   where
     go : (o : Option Begun) → wrote earlier s ≡ o → first_some o (wrote log s) ≡ Some b → All (λ x. x < 256) b.text

@@ -40,7 +40,7 @@ pub record IsWanting (kind : List ℕ) (h : List Event) (question : Call) : Type
   pub tied : IsTrue (keeps_legal kind) → IsExport (volume_in kind) (facts h) (of_word Export h) state
 
 -- What a call did to the log that its pass has seen: its event stands on top of a log after which the reply is right.
-pub record Replied (kind : List ℕ) (earlier : List Event) (question : Call) (given : Reply) (event : Option Event) (ks : List ℕ) (old new : List Event) : Type 0 where
+pub record AnswersCall (kind : List ℕ) (earlier : List Event) (question : Call) (given : Reply) (event : Option Event) (ks : List ℕ) (old new : List Event) : Type 0 where
   pub adds : AddsEvent ks old event new
   pub right : IsReplyAt kind earlier adds.before question given
 
@@ -81,10 +81,10 @@ event_given by question given = unwrap_or (export_event by question given) mark
 -- Texts.
 
 -- each write of the log began with a text of bytes
-abbrev pub AreBytes : List Event → Type 0
-AreBytes h = (s : ℕ) (b : Begun) → wrote h s ≡ Some b → All (λ x. x < 256) b.text
+abbrev pub AreTextsOfBytes : List Event → Type 0
+AreTextsOfBytes h = (s : ℕ) (b : Begun) → wrote h s ≡ Some b → All (λ x. x < 256) b.text
 
 -- so does one that begins by this call
-abbrev pub HasBytes : Call → Type 0
-HasBytes (call.Begin key text) = All (λ x. x < 256) text
-HasBytes question = Unit {0}
+abbrev pub IsCallOfBytes : Call → Type 0
+IsCallOfBytes (call.Begin key text) = All (λ x. x < 256) text
+IsCallOfBytes question = Unit {0}

@@ -9,7 +9,7 @@ use crate::counting::Metering;
 use rz_chronicle::{Book, Itself, Pass, WordToken};
 use rz_events::Event;
 
-/// AddsEvent the event of an answer, if it has one. The pass and the word_token have entered.
+/// Adds the event of an answer, if it has one. The pass and the word_token have entered.
 pub(crate) fn add<J: Metering>(
     book: &Book<J>,
     pass: &mut Pass<J>,

@@ -18,7 +18,7 @@ ghost use Rattle.rz_chronicle.specs.Kinds.{IsFit, IsFitAfter, keeps_legal, volum
 ghost use Rattle.rz_chronicle.specs.Holds.{Commits, Stays};
 ghost use Rattle.rz_chronicle.specs.Dealing.{new_word_token};
 ghost use Rattle.rz_shared_locked.specs.Adding.{MayBeNext};
-ghost use Rattle.rz_shared_locked.specs.LockedExports.{AreBytes, AreMetadataFrom, HasBytes, IsUnanswered, Replied, event_given, faults_of};
+ghost use Rattle.rz_shared_locked.specs.LockedExports.{AreTextsOfBytes, AreMetadataFrom, IsCallOfBytes, IsUnanswered, AnswersCall, event_given, faults_of};
 
 use crate::counting::Metering;
 use crate::waiting::without_reply;
@@ -53,7 +53,7 @@ impl<D: Disk, J: Metering> Model for LockedExport<D, J> {
     ghost use Rattle.rz_events.specs.declared.events.Word.TheVariants as w;
     ghost use Rattle.rz_metadata.specs.Stands.{export_in, is_journaled, refusal_of, CountsFaults};
     ghost use Rattle.rz_chronicle.specs.Kinds.{keeps_legal, volume_in};
-    ghost use Rattle.rz_shared_locked.specs.LockedExports.{AreBytes, AreMetadataOf, faults_of};
+    ghost use Rattle.rz_shared_locked.specs.LockedExports.{AreTextsOfBytes, AreMetadataOf, faults_of};
 
     ghost Value = { List AnEvent };
 
@@ -63,8 +63,8 @@ impl<D: Disk, J: Metering> Model for LockedExport<D, J> {
         × (is_journaled o.metadata ≡ is_some J.journal)
         × AreMetadataOf (refusal_of o.metadata) D.tells D.meter D.image (faults_of J.journal) J.kind (o.word_token.log ++ J.earlier) o.metadata
         × CountsFaults D.meter (faults_of J.journal) o.metadata
-        × AreBytes o.word_token.log
-        × (IsTrue (keeps_legal J.kind) → AreBytes J.earlier) };
+        × AreTextsOfBytes o.word_token.log
+        × (IsTrue (keeps_legal J.kind) → AreTextsOfBytes J.earlier) };
 }
 
 /// An actor and its call, of which a reply is.
@@ -105,7 +105,7 @@ impl<D: Disk, J: Metering> LockedExport<D, J> {
         requires counted { CountsFaults D.meter (faults_of J.journal) metadata }
         requires tied { IsTrue (keeps_legal J.kind) → IsExport (volume_in J.kind) (facts J.earlier) (of_word w.Export J.earlier) (export_in metadata) }
         requires stands { IsTrue (keeps_legal J.kind) → Stands D.tells D.meter D.image (faults_of J.journal) metadata (changing_calls J.earlier) }
-        requires bytes { IsTrue (keeps_legal J.kind) → AreBytes J.earlier }
+        requires bytes { IsTrue (keeps_legal J.kind) → AreTextsOfBytes J.earlier }
         ensures { result ≡ [] }
     {
         LockedExport {
@@ -151,12 +151,12 @@ impl<D: Disk, J: Metering> LockedExport<D, J> {
         requires actor { ¬ (pass.old.actor ≡ Actor.Admin) }
         requires may { IsTrue (keeps_legal J.kind) → IsProperCall (volume_in J.kind) (facts (pass.old.log ++ J.earlier)) (of_actor pass.old.actor (pass.old.log ++ J.earlier)) pass.old.actor (call_of call) }
         ensures same { (pass.new.actor ≡ pass.old.actor) × (pass.new.keys ≡ pass.old.keys) }
-        ensures replied { IfOk result (λ r. Replied J.kind J.earlier (call_of call.entry) r (export_event pass.old.actor (call_of call.entry) r) pass.old.keys pass.old.log pass.new.log) }
+        ensures replied { IfOk result (λ r. AnswersCall J.kind J.earlier (call_of call.entry) r (export_event pass.old.actor (call_of call.entry) r) pass.old.keys pass.old.log pass.new.log) }
         ensures unanswered { OnErr result (IsUnanswered J.kind J.earlier J.journal (call_of call.entry) pass.old.keys pass.old.log pass.new.log) }
 
         // Each text of the log is one of bytes.
-        ensures bytes { AreBytes pass.new.log }
-        ensures texts { IsTrue (keeps_legal J.kind) → AreBytes (pass.new.log ++ J.earlier) }
+        ensures bytes { AreTextsOfBytes pass.new.log }
+        ensures texts { IsTrue (keeps_legal J.kind) → AreTextsOfBytes (pass.new.log ++ J.earlier) }
 
         ensures fit { IsFit J.kind pass.new.log }
     {
@@ -198,10 +198,10 @@ impl<D: Disk, J: Metering> LockedExport<D, J> {
         requires room { count_at (word_key w.Export) self.old + 1 < 2 ^ 62 }
         requires may { IsTrue (keeps_legal J.kind) → IsProperCall (volume_in J.kind) (facts (pass.old.log ++ J.earlier)) (of_actor pass.old.actor (pass.old.log ++ J.earlier)) pass.old.actor (call_of call) }
         ensures same { (pass.new.actor ≡ pass.old.actor) × (pass.new.keys ≡ pass.old.keys) }
-        ensures replied { IfOk result (λ r. Replied J.kind J.earlier (call_of call.entry) r (export_event pass.old.actor (call_of call.entry) r) pass.old.keys pass.old.log pass.new.log) }
+        ensures replied { IfOk result (λ r. AnswersCall J.kind J.earlier (call_of call.entry) r (export_event pass.old.actor (call_of call.entry) r) pass.old.keys pass.old.log pass.new.log) }
         ensures unanswered { OnErr result (IsUnanswered J.kind J.earlier J.journal (call_of call.entry) pass.old.keys pass.old.log pass.new.log) }
-        ensures bytes { AreBytes pass.new.log }
-        ensures texts { IsTrue (keeps_legal J.kind) → AreBytes (pass.new.log ++ J.earlier) }
+        ensures bytes { AreTextsOfBytes pass.new.log }
+        ensures texts { IsTrue (keeps_legal J.kind) → AreTextsOfBytes (pass.new.log ++ J.earlier) }
         ensures fit { IsFit J.kind pass.new.log }
     {
         crate::laws::locked_export_kept();
@@ -229,7 +229,7 @@ impl<D: Disk, J: Metering> LockedExport<D, J> {
 
 /// The text of a write that begins is one of bytes, as each text is.
 fn look_into(call: CallRef<'_>)
-    ensures { HasBytes (call_of call.entry) }
+    ensures { IsCallOfBytes (call_of call.entry) }
 {
     if let CallRef::Begin { text, .. } = call {
         are_bytes(text);
@@ -242,7 +242,7 @@ fn are_bytes(text: &[u8])
     let _count = text.len();
 }
 
-/// AddsEvent the event of a reply that has one. The pass and the word_token have entered.
+/// Adds the event of a reply that has one. The pass and the word_token have entered.
 fn add_reply<J: Metering, C: Asking>(
     book: &Book<J>,
     pass: &mut Pass<J>,

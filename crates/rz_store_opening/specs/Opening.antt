@@ -36,7 +36,7 @@ use Rattle.rz_restart_laws.specs.Calls.{changing_calls}
 use Rattle.rz_restart_laws.specs.Earlier.{numbers}
 use Rattle.rz_restart_laws.specs.Found.{StandsByLog}
 use Rattle.rz_restart_laws.specs.Returns.{AreBack, NewDisk, HasNewDisks, replaced, returned}
-use Rattle.rz_shared_locked.specs.LockedExports.{AreBytes}
+use Rattle.rz_shared_locked.specs.LockedExports.{AreTextsOfBytes}
 use Rattle.rz_shared_locked.specs.LockedNodes.{IsAwayByLog}
 use Rattle.rz_shared.specs.declared.seating.Arrived.{Arrived}
 use Rattle.rz_shared.specs.declared.seating.Arrived.TheVariants as arrived
@@ -66,7 +66,7 @@ MayStand v h n text = StandsByLog v h n text ⊎ IsLostDisk v h n text ⊎ IsNoD
 -- enrolled, and its new disk may be there already. Texts of blocks are of bytes.
 pub record AreLeft {D : Type 0} (image : D → List ℕ → Type 0) (v : Volume) (h : List Event) (new : ℕ → NewDisk) (disks : List (Option D)) (journal : D) : Type 0 where
   pub earlier : HasNewDisks v new h
-  pub bytes : AreBytes h
+  pub bytes : AreTextsOfBytes h
   pub nodes : AllZip (λ (spec : NodeSpec) (d : Option D). IfSome d (λ there. (text : List ℕ) → image there text → MayStand v (replaced new (numbers v) h) spec.sid text)) (nodes_of v.clusters) disks
   pub last : AllTextsOf v (image journal) (changing_calls h)
 
@@ -164,7 +164,7 @@ pub record GoesOnAfter {D : Type 0} (tells : Bool) (meter : D → Meter) (text :
   pub told : IsTrue tells
   pub nodes : IsReopened meter text image v h (replaced new (numbers v) h) (reopened v new o.parts.nodes.items h) (export_in o.parts.metadata) o.parts.nodes.items
   pub short : length (reopened v new o.parts.nodes.items h) < 2 ^ 63 + 512
-  pub bytes : AreBytes (reopened v new o.parts.nodes.items h)
+  pub bytes : AreTextsOfBytes (reopened v new o.parts.nodes.items h)
   pub stands : Stands tells meter image first o.parts.metadata (changing_calls (reopened v new o.parts.nodes.items h))
 
 -- the disk in the place of a node that was opened, or that is away for this reason

@@ -4,7 +4,7 @@ use Rattle.rz_events.specs.declared.export.Reply.{Reply}
 use Rattle.rz_events.specs.Borrowed.{call_of}
 use Rattle.rz_export_model.specs.ExportEvents.{export_event}
 use Rattle.rz_shared_locked.specs.Adding.{AddsEvent}
-use Rattle.rz_shared_locked.specs.LockedExports.{Replied}
+use Rattle.rz_shared_locked.specs.LockedExports.{AnswersCall}
 use Rattle.rz_core.specs.History.{facts, of_actor}
 use Rattle.rz_core.specs.Tied.{IsProperCall}
 use Rattle.rz_chronicle.specs.Keys.{actor_key}
@@ -21,11 +21,11 @@ returns-clause-replied g c =
     let mid = c.enter.new.pass in
     let new = c.replied.new.pass.log in
     let q = (call_of c.args.call) in
-    ok-then (λ (r : Reply). Replied kind earlier q r (export_event mid.actor q r) mid.keys mid.log new) (λ (r : Reply). Replied kind earlier q r (export_event old.actor q r) old.keys old.log new) c.replied.result
+    ok-then (λ (r : Reply). AnswersCall kind earlier q r (export_event mid.actor q r) mid.keys mid.log new) (λ (r : Reply). AnswersCall kind earlier q r (export_event old.actor q r) old.keys old.log new) c.replied.result
     (λ given there.
-    let it : Replied kind earlier q given (export_event old.actor q given) old.keys mid.log new =
-    subst (λ (ks : List ℕ). Replied kind earlier q given (export_event old.actor q given) ks mid.log new) c.enter.ensures.same.1
-    (subst (λ (a : Actor). Replied kind earlier q given (export_event a q given) mid.keys mid.log new) c.enter.ensures.same.0 there) in
+    let it : AnswersCall kind earlier q given (export_event old.actor q given) old.keys mid.log new =
+    subst (λ (ks : List ℕ). AnswersCall kind earlier q given (export_event old.actor q given) ks mid.log new) c.enter.ensures.same.1
+    (subst (λ (a : Actor). AnswersCall kind earlier q given (export_event a q given) mid.keys mid.log new) c.enter.ensures.same.0 there) in
     record { adds = adds-after old.keys old.log mid.log new (export_event old.actor q given) c.enter.ensures.later c.enter.ensures.stays it.adds; right = it.right })
     c.replied.ensures.replied
 

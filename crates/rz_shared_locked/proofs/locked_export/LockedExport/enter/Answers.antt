@@ -5,7 +5,7 @@ use Rattle.rz_events.specs.declared.events.Event.{Event}
 use Rattle.rz_metadata.specs.Stands.{refusal_of}
 use Rattle.rz_chronicle.specs.Keys.{events_at, word_key}
 use Rattle.rz_chronicle.specs.Kinds.{volume_in}
-use Rattle.rz_shared_locked.specs.LockedExports.{AreBytes, AreMetadataOf, faults_of}
+use Rattle.rz_shared_locked.specs.LockedExports.{AreTextsOfBytes, AreMetadataOf, faults_of}
 use Rattle.rz_shared_locked.proofs.Texts.{bytes-same}
 use Rattle.rz_shared_locked.proofs.Journaled.{metadata-kept}
 use Rattle.rz_shared_locked.proofs.locked_export.LockedExport.enter.Goals as goal
@@ -30,6 +30,6 @@ invariant_of-self g c =
           (λ keeps. c.one_rule.ensures.legal kind earlier old c.room-fit.ensures.earlier keeps (c.room-fit.ensures.fit, c.room-fit.ensures.after))
           c.enter.ensures.later.1 same (refusal_of m) inv.3),
       inv.4,
-      subst AreBytes (sym c.enter.ensures.one) (bytes-same old new same inv.5),
+      subst AreTextsOfBytes (sym c.enter.ensures.one) (bytes-same old new same inv.5),
       inv.6,
     )

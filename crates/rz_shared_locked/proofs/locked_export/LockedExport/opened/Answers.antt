@@ -3,7 +3,7 @@ use Rattle.rz_events.specs.declared.events.Word.TheVariants as w
 use Rattle.rz_events.specs.declared.events.Event.{Event}
 use Rattle.rz_metadata.specs.Stands.{refusal_of}
 use Rattle.rz_chronicle.specs.Rules.{WordTokenView}
-use Rattle.rz_shared_locked.specs.LockedExports.{AreBytes, AreMetadataOf, faults_of}
+use Rattle.rz_shared_locked.specs.LockedExports.{AreTextsOfBytes, AreMetadataOf, faults_of}
 use Rattle.rz_shared_locked.proofs.Texts.{bytes-none}
 use Rattle.rz_shared_locked.proofs.Journaled.{opened-metadata}
 use Rattle.rz_shared_locked.proofs.locked_export.LockedExport.opened.Goals as goal
@@ -22,6 +22,6 @@ invariant_of-result g c =
           (opened-metadata disk.tells disk.meter disk.image (faults_of g.J.Metering.journal) kind earlier m
           (record { is_open = c.requires.open; tied = c.requires.tied; stands = c.requires.stands })),
       c.requires.counted,
-      subst AreBytes (sym empty) bytes-none,
+      subst AreTextsOfBytes (sym empty) bytes-none,
       c.requires.bytes,
     )

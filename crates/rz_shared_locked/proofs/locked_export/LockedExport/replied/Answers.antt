@@ -14,7 +14,7 @@ use Rattle.rz_chronicle.specs.Keys.{word_key}
 use Rattle.rz_chronicle.specs.Kinds.{keeps_legal, volume_in}
 use Rattle.rz_chronicle.specs.Holds.{Commits}
 use Rattle.rz_shared_locked.specs.Adding.{MayBeNext}
-use Rattle.rz_shared_locked.specs.LockedExports.{AreBytes, AreMetadataOf, event_given, faults_of}
+use Rattle.rz_shared_locked.specs.LockedExports.{AreTextsOfBytes, AreMetadataOf, event_given, faults_of}
 use Rattle.rz_shared_locked.proofs.LockedExports.{its-event, may-come, tied-after, calls-after, replied-so}
 use Rattle.rz_shared_locked.proofs.Journaled.{open-metadata, tied-metadata, replied-metadata, unreplied-metadata, none-refused, never-refused, lacks-memory}
 use Rattle.rz_shared_locked.proofs.Logs.{none-added}
@@ -22,7 +22,7 @@ use Rattle.rz_shared_locked.proofs.Texts.{bytes-after, bytes-behind}
 use Rattle.rz_shared_locked.proofs.locked_export.LockedExport.replied.Goals as goal
 
 pub returns-then-is_some-clause-texts : goal.returns-then-is_some-clause-texts
-returns-then-is_some-clause-texts g c = λ keeps. bytes-behind c.args.pass.now.log g.J.Naming.earlier (subst AreBytes (c.self.view_is ∙ c.requires.one) c.self.invariant.5) (c.self.invariant.6 keeps)
+returns-then-is_some-clause-texts g c = λ keeps. bytes-behind c.args.pass.now.log g.J.Naming.earlier (subst AreTextsOfBytes (c.self.view_is ∙ c.requires.one) c.self.invariant.5) (c.self.invariant.6 keeps)
 
 pub add_reply-requires-clause-its : goal.add_reply-requires-clause-its
 add_reply-requires-clause-its g c =
@@ -115,7 +115,7 @@ invariant_of-self g c =
       subst (λ (l : List Event). AreMetadataOf (refusal_of m') disk.tells disk.meter disk.image base kind (l ++ earlier) m') (sym c.add_reply.ensures.one)
           (replied-metadata disk.tells disk.meter disk.image base kind earlier h q m m' was none given new c.in-Ok.ensures.open c.in-Ok.ensures.kept tied' calls),
       c.reply.ensures.counted (open-metadata disk.tells disk.meter disk.image base kind earlier h q m m' was none) base inv.4,
-      subst AreBytes (sym c.add_reply.ensures.one) (bytes-after by q given ks h new c.look_into.ensures (subst AreBytes log inv.5) it),
+      subst AreTextsOfBytes (sym c.add_reply.ensures.one) (bytes-after by q given ks h new c.look_into.ensures (subst AreTextsOfBytes log inv.5) it),
       inv.6,
     )
 
@@ -194,7 +194,7 @@ returns-in-Ok-clause-bytes g c =
     let it : Commits (word_key w.Export ∷ ks) h (event_given by q given) new =
     subst (λ (a : Actor). Commits (word_key w.Export ∷ ks) h (event_given a q given) new) c.actor-by.ensures.value
     (subst (λ (u : Word). Commits (word_key u ∷ ks) h (event_given c.actor-by.result q given) new) inv.0 c.add_reply.ensures.commits) in
-    bytes-after by q given ks h new c.look_into.ensures (subst AreBytes log inv.5) it
+    bytes-after by q given ks h new c.look_into.ensures (subst AreTextsOfBytes log inv.5) it
 
 pub returns-in-Ok-clause-texts : goal.returns-in-Ok-clause-texts
 returns-in-Ok-clause-texts g c = λ keeps.
@@ -215,10 +215,10 @@ returns-in-Ok-clause-texts g c = λ keeps.
     let it : Commits (word_key w.Export ∷ ks) h (event_given by q given) new =
     subst (λ (a : Actor). Commits (word_key w.Export ∷ ks) h (event_given a q given) new) c.actor-by.ensures.value
     (subst (λ (u : Word). Commits (word_key u ∷ ks) h (event_given c.actor-by.result q given) new) inv.0 c.add_reply.ensures.commits) in
-    bytes-behind new earlier (bytes-after by q given ks h new c.look_into.ensures (subst AreBytes log inv.5) it) (inv.6 keeps)
+    bytes-behind new earlier (bytes-after by q given ks h new c.look_into.ensures (subst AreTextsOfBytes log inv.5) it) (inv.6 keeps)
 
 pub returns-in-Err-clause-texts : goal.returns-in-Err-clause-texts
-returns-in-Err-clause-texts g c = λ keeps. bytes-behind c.args.pass.now.log g.J.Naming.earlier (subst AreBytes (c.self.view_is ∙ c.requires.one) c.self.invariant.5) (c.self.invariant.6 keeps)
+returns-in-Err-clause-texts g c = λ keeps. bytes-behind c.args.pass.now.log g.J.Naming.earlier (subst AreTextsOfBytes (c.self.view_is ∙ c.requires.one) c.self.invariant.5) (c.self.invariant.6 keeps)
 
 pub returns-then-is_some-clause-unanswered : goal.returns-then-is_some-clause-unanswered
 returns-then-is_some-clause-unanswered g c =
