@@ -90,3 +90,10 @@ one-out {D = D} home d disks disks' whole is was =
 pub all-out : {D : Type 0} (home : List D) (disks whole : List (Option D)) → length disks ≡ 0 → map (λ (d : D). Some d) home ++ reverse disks ≡ whole → map (λ (d : D). Some d) home ≡ whole
 all-out home [] whole none was = sym (append-nil (map (λ d. Some d) home)) ∙ was
 all-out home (o ∷ disks) whole none was = absurd (cc)
+
+-- one that waits is here, where all are
+pub waiting-here : {D : Type 0} (home : List D) (o : Option D) (disks disks' whole : List (Option D)) → disks ≡ disks' ++ o ∷ [] → map (λ (d : D). Some d) home ++ reverse disks ≡ whole → AllByRecursion (λ (o : Option D). IsSome o) whole → IsSome o
+waiting-here {D = D} home o disks disks' whole is was all =
+    let some : D → Option D = λ (x : D). Some x in
+    last-at (λ (o : Option D). IsSome o) (map some home) (reverse disks') o
+    (subst (AllByRecursion (λ (o : Option D). IsSome o)) (sym was ∙ ap (λ (l : List (Option D)). map some home ++ l) (back-turned disks disks' o is)) all)

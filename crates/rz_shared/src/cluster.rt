@@ -1,6 +1,5 @@
 //! The cluster and its calls.
 ghost use Rattle.std.specs.Option.{option_map};
-ghost use Rattle.rz_node_laws.specs.Images.{geometry_in};
 ghost use Rattle.std.specs.Prelude.{◌≡◌, ◌+◌, ◌<◌, ◌^◌, ◌++◌, false, IsTrue, IfOk, IfErr, OnErr, drop, length, map, slice_index_or};
 ghost use Rattle.mj_angles.specs.Layout.{max_bins_of};
 ghost use Rattle.rz_events.specs.declared.files.NodeSpec.{NodeSpec as ANodeSpec};
@@ -11,19 +10,21 @@ ghost use Rattle.rz_events.specs.Borrowed.{call_of};
 ghost use Rattle.rz_export_model.specs.ExportEvents.{export_event};
 ghost use Rattle.rz_events.specs.declared.nodes.NodeAsk.TheVariants as ask;
 ghost use Rattle.rz_events.specs.declared.nodes.NodeAnswer.TheVariants as answer;
+ghost use Rattle.rz_cells_slots.specs.Shape.{IsGeometry};
 ghost use Rattle.rz_node_model.specs.NodeEvents.{node_event, lose_event};
-ghost use Rattle.rz_shared_locked.specs.Swaps.{IsUnswapped};
 ghost use Rattle.rz_node_model.specs.Versions.{Stands};
 ghost use Rattle.rz_node.specs.Calls.{Takes, IsUnread};
 ghost use Rattle.rz_core.specs.History.{facts, of_actor};
 ghost use Rattle.rz_core.specs.NodeRows.{IsNodeOf};
 ghost use Rattle.rz_core.specs.Tied.{IsProperCall};
+ghost use Rattle.rz_node_laws.specs.Images.{geometry_in};
 ghost use Rattle.rz_chronicle.specs.Keys.{count_at, word_key};
 ghost use Rattle.rz_chronicle.specs.Kinds.{IsFit, keeps_legal, volume_in};
 ghost use Rattle.rz_chronicle.specs.Holds.{Commits};
 ghost use Rattle.rz_shared_locked.specs.Adding.{MayBeNext};
 ghost use Rattle.rz_shared_locked.specs.LockedNodes.{MayAsk, IsAskerRight, Answered, IsTrueRecord};
-ghost use Rattle.rz_shared_locked.specs.LockedExports.{AreTextsOfBytes, IsUnanswered, AnswersCall};
+ghost use Rattle.rz_shared_locked.specs.LockedExports.{AnswersCall, AreTextsOfBytes, IsUnanswered};
+ghost use Rattle.rz_shared_locked.specs.Swaps.{IsUnswapped};
 
 use crate::room::ClosingRoom;
 use crate::{LockedExport, LockedNode, Metering, Swap, SwapFault};
@@ -221,7 +222,8 @@ impl<D: Disk, J: Metering> Cluster<D, J> {
     // How the disk of a node is laid out.
     fn geometry(&self, node: u16) -> Geometry
         requires { IsNodeOf (volume_in J.kind) node }
-        ensures { result ≡ geometry_in (volume_in J.kind) node }
+        ensures of_node { result ≡ geometry_in (volume_in J.kind) node }
+        ensures proper { IsGeometry result }
     {
         let spec = self.nodes[place_of(self.nodes.as_slice(), node)];
         Geometry {

@@ -1,9 +1,18 @@
-use Rattle.std.proofs.Common.{◌≡◌, length, sym, ◌∙◌, ap, subst, arith, vec_len}
+use Rattle.std.proofs.Common.{◌≡◌, List, [], length, sym, ◌∙◌, ap, subst, arith, vec_len}
+use Rattle.std.specs.Prelude.{is_some}
 use Rattle.std.specs.List.{AllByRecursion}
 use Rattle.std.proofs.lemmas.List.{length-map}
 use Rattle.rz_events.specs.Volume.{Volume, IsNode, IsVolume, nodes_of}
 use Rattle.rz_events.specs.declared.files.NodeSpec.{NodeSpec}
+use Rattle.rz_events.specs.declared.events.Event.{Event}
+use Rattle.rz_events.specs.declared.events.Word.TheVariants.{Export}
+use Rattle.rz_core.specs.History.{facts, of_word}
+use Rattle.rz_core.specs.Tied.{IsExport}
+use Rattle.rz_export_model.specs.Export.{Export as State, new_export}
+use Rattle.rz_metadata.specs.Stands.{export_in, Stands}
+use Rattle.rz_restart_laws.specs.Calls.{changing_calls}
 use Rattle.rz_chronicle.specs.Kinds.{volume_in}
+use Rattle.rz_shared_locked.specs.LockedExports.{AreTextsOfBytes, faults_of}
 use Rattle.rz_shared_locked.proofs.Behind.{keeps-honest}
 use Rattle.rz_shared.proofs.NewLockedNodes.{untouched, all-ready, made-length}
 use Rattle.rz_shared.proofs.cluster.Cluster.new.Goals as goal
@@ -30,6 +39,34 @@ locked_node_all-locked_nodes-requires-clause-room g c =
     let parts : vec_len c.in-Ok.parts.nodes ≡ length c.in-Ok.parts.nodes.items = c.in-Ok.parts.nodes.ok.0 in
     let room = c.in-Ok.ensures.room.1 in
     (c.in-Ok.ensures.room.0, omega (arith, same, nodes, servers, parts, room))
+
+-- the export of a new store, behind no earlier log
+
+pub opened-requires-clause-volume : goal.opened-requires-clause-volume
+opened-requires-clause-volume g c = ap (λ (s : State). s.volume) c.in-Ok.ensures.export ∙ c.requires.volume
+
+pub opened-requires-clause-journal : goal.opened-requires-clause-journal
+opened-requires-clause-journal g c = c.in-Ok.ensures.journal ∙ sym (ap is_some g.met.J.Counting.unkept)
+
+pub opened-requires-clause-open : goal.opened-requires-clause-open
+opened-requires-clause-open g c = c.in-Ok.ensures.open
+
+pub opened-requires-clause-counted : goal.opened-requires-clause-counted
+opened-requires-clause-counted g c = c.in-Ok.ensures.counted (faults_of g.J.Metering.journal)
+
+pub opened-requires-clause-tied : goal.opened-requires-clause-tied
+opened-requires-clause-tied g c = λ keeps.
+    let v = volume_in g.J.Naming.kind in
+    subst (λ (h : List Event). IsExport v (facts h) (of_word Export h) (export_in c.in-Ok.parts.metadata)) (sym g.met.J.Counting.anew)
+    (subst (IsExport v (facts []) []) (sym c.in-Ok.ensures.export) (subst (λ (u : Volume). IsExport v (facts []) [] (new_export u 0)) (sym c.requires.volume) (c.beginning.ensures v (facts [])).1))
+
+pub opened-requires-clause-stands : goal.opened-requires-clause-stands
+opened-requires-clause-stands g c = λ keeps.
+    subst (λ (h : List Event). Stands g.D.Disk.tells g.D.Disk.meter g.D.Disk.image (faults_of g.J.Metering.journal) c.in-Ok.parts.metadata (changing_calls h)) (sym g.met.J.Counting.anew)
+    (c.in-Ok.ensures.stands (faults_of g.J.Metering.journal))
+
+pub opened-requires-clause-bytes : goal.opened-requires-clause-bytes
+opened-requires-clause-bytes g c = λ keeps. subst AreTextsOfBytes (sym g.met.J.Counting.anew) (λ s b is. absurd (cc))
 
 pub of-requires-clause-locked_nodes : goal.of-requires-clause-locked_nodes
 of-requires-clause-locked_nodes g c =
