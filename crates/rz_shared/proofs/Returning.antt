@@ -1,5 +1,5 @@
 -- What comes out of a lock.
-use Rattle.std.proofs.Common.{◌≡◌, ℕ, ◌+◌, Bool, true, IsTrue, IfSome, IsSome, List, [], ◌∷◌, ◌++◌, map, length, Option, Some, None, refl, sym, ◌∙◌, ap, subst, length-append, append_assoc}
+use Rattle.std.proofs.Common.{◌≡◌, ℕ, ◌+◌, Bool, IsTrue, IfSome, IsSome, List, [], ◌∷◌, ◌++◌, map, length, Option, Some, None, refl, sym, ◌∙◌, ap, subst, length-append, append_assoc}
 use Rattle.std.specs.Prelude.{reverse}
 use Rattle.std.specs.Option.{option_map}
 use Rattle.std.specs.List.{AllByRecursion, AllZip}
@@ -91,9 +91,13 @@ pub all-out : {D : Type 0} (home : List D) (disks whole : List (Option D)) → l
 all-out home [] whole none was = sym (append-nil (map (λ d. Some d) home)) ∙ was
 all-out home (o ∷ disks) whole none was = absurd (cc)
 
--- one that waits is here, where all are
-pub waiting-here : {D : Type 0} (home : List D) (o : Option D) (disks disks' whole : List (Option D)) → disks ≡ disks' ++ o ∷ [] → map (λ (d : D). Some d) home ++ reverse disks ≡ whole → AllByRecursion (λ (o : Option D). IsSome o) whole → IsSome o
-waiting-here {D = D} home o disks disks' whole is was all =
+none-here : {D : Type 0} (o : Option D) → o ≡ None → IsSome o → ⊥
+none-here None away here = absurd (cc)
+none-here (Some d) away here = absurd (cc)
+
+-- none that waits is away, where all are here
+pub waiting-here : {D : Type 0} (home : List D) (o : Option D) (disks disks' whole : List (Option D)) → disks ≡ disks' ++ o ∷ [] → map (λ (d : D). Some d) home ++ reverse disks ≡ whole → AllByRecursion (λ (o : Option D). IsSome o) whole → o ≡ None → ⊥
+waiting-here {D = D} home o disks disks' whole is was all away =
     let some : D → Option D = λ (x : D). Some x in
-    last-at (λ (o : Option D). IsSome o) (map some home) (reverse disks') o
-    (subst (AllByRecursion (λ (o : Option D). IsSome o)) (sym was ∙ ap (λ (l : List (Option D)). map some home ++ l) (back-turned disks disks' o is)) all)
+    none-here o away (last-at (λ (o : Option D). IsSome o) (map some home) (reverse disks') o
+    (subst (AllByRecursion (λ (o : Option D). IsSome o)) (sym was ∙ ap (λ (l : List (Option D)). map some home ++ l) (back-turned disks disks' o is)) all))

@@ -1,4 +1,5 @@
-use Rattle.std.proofs.Common.{◌≡◌, ◌∙◌, length, map, Some, arith, vec_len}
+use Rattle.std.proofs.Common.{◌≡◌, ◌∙◌, ◌++◌, ◌∷◌, [], List, Option, length, map, Some, sym, ap, subst, arith, vec_len}
+use Rattle.std.specs.Prelude.{reverse}
 use Rattle.std.proofs.lemmas.List.{reverse-reverse}
 use Rattle.rz_shared.proofs.Returning.{none-out, one-out, all-out, waiting-here}
 use Rattle.rz_shared.proofs.closing.unwrap_all.Goals as goal
@@ -14,7 +15,8 @@ loop-disk-init g c =
     }
 
 pub unreachable-requires : goal.unreachable-requires
-unreachable-requires g c = ?
+unreachable-requires g c =
+    waiting-here c.loop-disk.home.items c.in-Some.disk c.loop-disk.disks.items c.pop.new.self.items c.args.disks.items c.in-Some.ensures.items c.loop-disk.invariant.whole c.requires.here c.in_default-disk.is
 
 pub push_reserved-requires : goal.push_reserved-requires
 push_reserved-requires g c =
@@ -28,7 +30,9 @@ loop-disk-preserved g c =
     let inv = c.loop-disk.invariant in let count = inv.count in let room = inv.room in
     let more = c.push_reserved.ensures.len in let same = c.push_reserved.ensures.capacity in
     record {
-      whole = ?;
+      whole = subst (λ (l : List g.row.D.Denot). map (λ d. Some d) l ++ reverse c.pop.new.self.items ≡ c.args.disks.items) (sym c.push_reserved.ensures.items)
+          (one-out c.loop-disk.home.items c.in-Some-disk.disk c.loop-disk.disks.items c.pop.new.self.items c.args.disks.items
+          (c.in-Some.ensures.items ∙ ap (λ (o : Option g.row.D.Denot). c.pop.new.self.items ++ o ∷ []) c.in-Some-disk.is) inv.whole);
       count = omega (arith, count, popped, more);
       room = omega (arith, room, same);
     }

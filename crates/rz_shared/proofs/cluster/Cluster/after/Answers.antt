@@ -28,5 +28,5 @@ invariant_of-result g c =
       omega (arith, made, arrived, count, volume),
       subst IsVolume c.requires.volume c.all_nodes.ensures.rules,
       subst (λ (v : Volume). AllByRecursion IsNode (nodes_of v.clusters)) c.requires.volume c.all_nodes.ensures.proper,
-      ap (λ (v : Volume). v.layout) c.requires.volume,
+      ap (λ (v : Volume). v.layout) (c.volume.view_is ∙ c.requires.volume),
     )

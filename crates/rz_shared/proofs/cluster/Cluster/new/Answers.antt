@@ -68,24 +68,24 @@ opened-requires-clause-stands g c = λ keeps.
 pub opened-requires-clause-bytes : goal.opened-requires-clause-bytes
 opened-requires-clause-bytes g c = λ keeps. subst AreTextsOfBytes (sym g.met.J.Counting.anew) (λ s b is. absurd (cc))
 
-pub of-requires-clause-locked_nodes : goal.of-requires-clause-locked_nodes
-of-requires-clause-locked_nodes g c =
+pub of-room-requires-clause-locked_nodes : goal.of-room-requires-clause-locked_nodes
+of-room-requires-clause-locked_nodes g c =
     let all = ap length c.in-Ok.ensures.nodes in
     let volume = ap (λ (v : Volume). length (nodes_of v.clusters)) c.requires.volume in
     let parts : vec_len c.in-Ok.parts.nodes ≡ length c.in-Ok.parts.nodes.items = c.in-Ok.parts.nodes.ok.0 in
     let room = c.in-Ok.ensures.unlocked.1 in
     (c.in-Ok.ensures.unlocked.0, omega (arith, all, volume, parts, room))
 
-pub of-requires-clause-disks : goal.of-requires-clause-disks
-of-requires-clause-disks g c =
+pub of-room-requires-clause-disks : goal.of-room-requires-clause-disks
+of-room-requires-clause-disks g c =
     let all = ap length c.in-Ok.ensures.nodes in
     let volume = ap (λ (v : Volume). length (nodes_of v.clusters)) c.requires.volume in
     let parts : vec_len c.in-Ok.parts.nodes ≡ length c.in-Ok.parts.nodes.items = c.in-Ok.parts.nodes.ok.0 in
     let room = c.in-Ok.ensures.disks.1 in
     (c.in-Ok.ensures.disks.0, omega (arith, all, volume, parts, room))
 
-pub of-requires-clause-home : goal.of-requires-clause-home
-of-requires-clause-home g c =
+pub of-room-requires-clause-home : goal.of-room-requires-clause-home
+of-room-requires-clause-home g c =
     let same = made-length g.D.Disk.tells g.D.Disk.meter g.D.Disk.image g.D.Disk.text c.in-Ok.parts.layout c.as_slice.result.now c.args.disks.items c.in-Ok-format_all.servers.items
     (c.requires.count ∙ ap length (sym (c.as_slice.ensures.value ∙ c.in-Ok.ensures.nodes))) c.in-Ok-format_all.ensures.made in
     let nodes = ap length c.as_slice.ensures.value in
@@ -95,8 +95,8 @@ of-requires-clause-home g c =
     let home = c.in-Ok-format_all.ensures.room in
     (c.in-Ok-format_all.ensures.empty, λ fixed. omega (arith, same, nodes, all, volume, servers, home))
 
-pub of-requires-clause-word_tokens : goal.of-requires-clause-word_tokens
-of-requires-clause-word_tokens g c =
+pub of-room-requires-clause-word_tokens : goal.of-room-requires-clause-word_tokens
+of-room-requires-clause-word_tokens g c =
     let volume = ap (λ (v : Volume). length (nodes_of v.clusters)) c.requires.volume in
     let desk : vec_len c.args.desk.nodes ≡ length c.args.desk.nodes.items = c.args.desk.nodes.ok.0 in
     let fits = c.args.desk.nodes.ok.1 in

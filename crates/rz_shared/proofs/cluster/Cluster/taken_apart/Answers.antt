@@ -4,7 +4,10 @@ use Rattle.std.specs.List.{IsDistinct}
 use Rattle.rz_events.specs.Volume.{Volume}
 use Rattle.rz_events.specs.declared.files.NodeSpec.{NodeSpec}
 use Rattle.rz_events.specs.declared.events.Word.TheVariants as w
+use Rattle.rz_events.specs.declared.events.Event.{Event}
 use Rattle.rz_chronicle.specs.Keys.{sids_of}
+use Rattle.rz_chronicle.specs.Rules.{WordTokenView}
+use Rattle.rz_shared_locked.specs.LockedExports.{AreMetadataFrom, faults_of}
 use Rattle.rz_shared.specs.Arranged.{sids}
 use Rattle.rz_shared.proofs.Ordered.{in-order}
 use Rattle.rz_shared.proofs.cluster.Cluster.taken_apart.Goals as goal
@@ -24,3 +27,18 @@ returns-clause-order g c = λ apart.
     in-order g.D.Disk.meter g.D.Disk.image g.J.Metering.fixed g.J.Naming.kind g.J.Naming.earlier g.J.Metering.first c.as_slice.result.now c.empty_all-disks.result.0.items c.empty_all-disks.result.1.items c.arrange-all.new.locked_nodes.items c.arrange-all.result (c.as_slice.ensures.value ∙ c.self.invariant.0)
     c.arrange-all.ensures.placed c.arrange-all.ensures.missing (omega (arith, nodes, count, all, locked_nodes, specs, locks)) c.empty_all-disks.ensures.words c.empty_all-disks.ensures.returned apart
     ∙ ap (λ (v : Volume). map w.Node (sids_of v)) c.self.view_is
+
+pub returns-clause-metadata : goal.returns-clause-metadata
+returns-clause-metadata g c =
+    subst (λ (l : List Event). AreMetadataFrom g.D.Disk.tells g.D.Disk.meter g.D.Disk.image (faults_of g.J.Metering.journal) g.J.Naming.kind g.J.Naming.earlier l c.close-metadata.result.0)
+    (sym (ap (λ (p : WordTokenView). p.log) c.close-metadata.ensures.word_token)) c.close-metadata.ensures.metadata
+
+pub returns-clause-home : goal.returns-clause-home
+returns-clause-home g c =
+    let count = c.empty_all-disks.ensures.count in
+    let placed = c.arrange-all.ensures.count in
+    let all = c.unlock_all-locked_nodes.ensures.count in
+    let locks = c.self.invariant.2 in
+    let room = c.room.invariant in
+    let disks : vec_len c.empty_all-disks.result.0 ≡ length c.empty_all-disks.result.0.items = c.empty_all-disks.result.0.ok.0 in
+    (room.4, λ fixed. (let low = room.5 fixed in omega (arith, count, placed, all, locks, disks, low)))
