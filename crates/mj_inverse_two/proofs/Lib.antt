@@ -1,0 +1,5 @@
+pub mod Running
+pub mod Shares
+pub mod Rows
+pub mod Found
+pub mod Solved
