@@ -11,11 +11,11 @@ use Rattle.mj_inverse_two.proofs.Shares.{share_at, share_low, share_high, share_
 pub record HaveBins (cols : ℕ) (s : Starts) (bins : List ℕ) (g h : ℕ → ℕ) : Type 0 where
   pub all : (b : ℕ) → b < cols + (s.first + s.second) → get_or bins b 0 ≡ bit_xor (share cols s.first g b) (share cols s.second h b)
 
-second_zero : (x y : ℕ) → (x ≡ 0) ⊎ (y ≡ 0) → 0 < x → y ≡ 0
+pub second_zero : (x y : ℕ) → (x ≡ 0) ⊎ (y ≡ 0) → 0 < x → y ≡ 0
 second_zero x y (inl e) some = absurd (omega arith)
 second_zero x y (inr e) some = e
 
-first_zero : (x y : ℕ) → (x ≡ 0) ⊎ (y ≡ 0) → 0 < y → x ≡ 0
+pub first_zero : (x y : ℕ) → (x ≡ 0) ⊎ (y ≡ 0) → 0 < y → x ≡ 0
 first_zero x y (inl e) some = e
 first_zero x y (inr e) some = absurd (omega arith)
 

@@ -17,6 +17,17 @@ pub record AreStarts (p : ℤ) (s : Starts) : Type 0 where
   pub one : (s.first ≡ 0) ⊎ (s.second ≡ 0)
   pub both : s.first + s.second ≡ unsigned_abs p
 
+-- the same of an angle that was passed as another number
+pub starts_for : (p given : ℤ) (s : Starts) → given ≡ p → unsigned_abs p ≤ 16 → s.first ≡ row_start given 2 0 → s.second ≡ row_start given 2 1 → (s.first ≡ 0) ⊎ (s.second ≡ 0) →
+    s.first + s.second ≡ unsigned_abs given → AreStarts p s
+starts_for p given s is small first second one both = record {
+  small = small;
+  first = first ∙ ap (λ x. row_start x 2 0) is;
+  second = second ∙ ap (λ x. row_start x 2 1) is;
+  one = one;
+  both = both ∙ ap unsigned_abs is;
+}
+
 module _ (cols : ℕ) (p q : ℤ) (low high : Starts) (a b : List ℕ) (f : ℕ → ℕ) (rises : p <ℤ q) (at_p : AreStarts p low) (at_q : AreStarts q high) (wide : 16 ≤ cols) (few : cols ≤ 2048)
     (long_a : length a ≡ bins p 2 cols) (long_b : length b ≡ bins q 2 cols) (is : IsSecond cols low high a b f) where
   order : low.second + high.first < low.first + high.second
