@@ -1,8 +1,7 @@
 -- Two positions.
-use Rattle.std.proofs.Common.{◌≡◌, ℕ, suc, ◌+◌, ◌<◌, ◌≤◌, arith, rules, refl, sym, ap, ◌∙◌, subst, List, [], ◌∷◌, length, get_or, take, drop, ℤ}
+use Rattle.std.proofs.Common.{◌≡◌, ℕ, zero, suc, ◌+◌, arith, refl, sym, ap, ◌∙◌, subst, List, [], ◌∷◌, length, get_or, take, drop, length-drop, ℤ}
 use Rattle.std.specs.List.{sum_by}
 use Rattle.std.proofs.lemmas.List.Sums.{sum_by-cons}
-use Rattle.std.proofs.lemmas.List.{places}
 use Rattle.rz_words.specs.Grid.{Grid, grid_of}
 use Rattle.mj_angles.specs.declared.layout.Layout.{Layout}
 use Rattle.mj_angles.specs.Layout.{inverse_of, cols_of, angle_of, bins_at_of}
@@ -30,6 +29,15 @@ pub bins_of_two : (y : Layout) (i n cols : ℕ) (p : ℤ) → inverse_of y ≡ 2
 bins_of_two y i n cols p two wide angle is =
     is ∙ ap (λ r. bin_count (angle_of y i) r (cols_of y)) two ∙ ap (bin_count (angle_of y i) 2) (sym wide) ∙ ap (λ x. bin_count x 2 cols) (sym angle)
 
+take_whole : (m : ℕ) (xs : List ℕ) → length xs ≡ m → xs ≡ take m xs
+take_whole zero [] long = refl
+take_whole zero (x ∷ xs) long = absurd (let e : suc (length xs) ≡ 0 = long in omega arith)
+take_whole (suc m) [] long = absurd (let e : 0 ≡ suc m = long in omega arith)
+take_whole (suc m) (x ∷ xs) long = ap (λ (ys : List ℕ). x ∷ ys) (take_whole m xs (let e : suc (length xs) ≡ suc m = long in omega arith))
+
+rest_long : (n m : ℕ) (xs : List ℕ) → length xs ≡ n + m → length (drop n xs) ≡ m
+rest_long n m xs long = let e = length-drop n xs in omega arith
+
 -- the search by two positions
 module _ (y : Layout) (positions bins front back : List ℕ) (cols : ℕ) (p q : ℤ) (two : inverse_of y ≡ 2) (wide : cols ≡ cols_of y) (count : length positions ≡ 2)
     (long : length bins ≡ sum_by (bins_at_of y) positions) (first : front ≡ take (bins_at_of y (get_or positions 0 0)) bins) (rest : back ≡ drop (bins_at_of y (get_or positions 0 0)) bins)
@@ -40,7 +48,8 @@ module _ (y : Layout) (positions bins front back : List ℕ) (cols : ℕ) (p q :
       let j : ℕ = get_or positions 1 0 in
       let n : ℕ = bins_at_of y (get_or positions 0 0) in
       let total = two_bins y positions bins count long in
-      let whole : drop (bins_at_of y (get_or positions 0 0)) bins ≡ take (bins_at_of y (get_or positions 1 0)) (drop (bins_at_of y (get_or positions 0 0)) bins) = search (rules, places) in
+      let whole : drop (bins_at_of y (get_or positions 0 0)) bins ≡ take (bins_at_of y (get_or positions 1 0)) (drop (bins_at_of y (get_or positions 0 0)) bins) =
+      take_whole (bins_at_of y (get_or positions 1 0)) (drop (bins_at_of y (get_or positions 0 0)) bins) (rest_long (bins_at_of y (get_or positions 0 0)) (bins_at_of y (get_or positions 1 0)) bins total) in
       let P : List ℕ → Type 0 = λ xs. two_search cols p front q back ≡ search_of y xs bins in
       subst P (sym (pair_of positions count))
       (ap (λ x. two_search x p front q back) wide

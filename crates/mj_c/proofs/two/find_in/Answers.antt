@@ -1,11 +1,11 @@
-use Rattle.std.proofs.Common.{rules, arith, ◌≡◌, ◌<◌, ◌+◌, ◌∙◌, ℕ, ℤ, ap, sym, subst, take, drop, length, get_or, w32, to_z, of_z}
-use Rattle.std.specs.Prelude.{unsigned_abs, ◌<ℤ◌}
+use Rattle.std.proofs.Common.{rules, arith, ◌≡◌, ◌∙◌, ℤ, ap, sym, subst, take, drop, length, get_or, w32, to_z, of_z}
+use Rattle.std.specs.Prelude.{◌<ℤ◌}
 use Rattle.std.proofs.lemmas.Int.{to_z-of_z}
 use Rattle.std.proofs.lemmas.List.{places}
 use Rattle.mj_angles.specs.Layout.{angle_of}
 use Rattle.mj_c.proofs.Ascending.{later_above}
 use Rattle.mj_c.proofs.Pair.{bins_of_two, found_two, same_two, searched_two, two_bins}
-use Rattle.mj_c.proofs.Risen.{angle_rises, known_in}
+use Rattle.mj_c.proofs.Risen.{angle_rises}
 use Rattle.mj_c.proofs.two.find_in.Goals as goal
 
 pub solve_two-requires-clause-rises : goal.solve_two-requires-clause-rises
