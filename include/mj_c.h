@@ -13,7 +13,7 @@
  * `answers` and `room` overlap nothing else.
  *
  * Memory. The caller owns all that is passed, and the library keeps nothing of it after the call, and no
- * state either, so calls from several threads need no lock. mj_c_solve, mj_c_solve_many and
+ * state either, so calls from several threads need no lock. mj_c_solve of more than two rows, mj_c_solve_many and
  * mj_c_solve_eight take room by malloc and give it back by free before they return. Calls that end in
  * `_in` work in room that the caller lends, mj_c_room(layout) words or more; what is in it does not matter,
  * so one room serves any number of calls, one after the other. All others take none.

@@ -37,7 +37,7 @@ inverse_most y = grind arith
 pub reach_least : (y : Layout) → 8 ≤ reach_of y
 reach_least y = grind arith
 
-angle_rises : (y : Layout) (i j : ℕ) → i < j → angle_of y i <ℤ angle_of y j
+pub angle_rises : (y : Layout) (i j : ℕ) → i < j → angle_of y i <ℤ angle_of y j
 angle_rises y i j h = grind (arith, ints)
 
 pub are_angles : (y : Layout) (positions : List ℕ) → list_all (λ i. nat_lt i (safe_of y)) positions ≡ true → is_ascending_from 0 positions ≡ true → length positions ≡ inverse_of y →

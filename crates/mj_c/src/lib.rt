@@ -34,6 +34,7 @@ mod many;
 mod room;
 #[cfg(test)]
 mod tests;
+mod two;
 
 use std::alloc::Global;
 
