@@ -1,8 +1,6 @@
 -- Passes that are gathered by one that goes on.
-use Rattle.std.proofs.Common.{◌++◌, [], ◌∷◌, ℕ, List, sym, ap, ◌∙◌, subst, inl, inr, append_assoc}
+use Rattle.std.proofs.Common.{[], ◌∷◌, List}
 use Rattle.std.specs.List.{AllByRecursion}
-use Rattle.rz_events.specs.declared.events.Event.{Event}
-use Rattle.rz_chronicle.specs.Keys.{IsOneOf}
 use Rattle.rz_chronicle.specs.Rules.{PassView}
 use Rattle.rz_threads_workers.specs.Gathered.{PassGoesOn, HoldsPass, IsHeldLaw}
 

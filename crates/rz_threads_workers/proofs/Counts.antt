@@ -1,8 +1,8 @@
 -- Words that are counted one after another, while the tokens of all of them are held.
-use Rattle.std.proofs.Common.{◌≡◌, ◌≤◌, ◌<◌, ◌+◌, ◌++◌, ℕ, zero, suc, List, [], ◌∷◌, Option, Some, None, length, append-nil, append_assoc, sym, refl, ap, ap₂, ◌∙◌, subst, arith}
+use Rattle.std.proofs.Common.{◌≡◌, ◌≤◌, ◌<◌, ◌+◌, ℕ, zero, suc, List, [], Option, Some, None, length, append-nil, sym, refl, ap, ap₂, ◌∙◌, arith}
 use Rattle.rz_events.specs.declared.events.Word.{Word}
 use Rattle.rz_events.specs.declared.events.Event.{Event}
-use Rattle.rz_chronicle.specs.Keys.{IsLater, IsOneOf, events_at, moves_of, owner, word_key}
+use Rattle.rz_chronicle.specs.Keys.{IsLater, events_at, moves_of, owner, word_key}
 use Rattle.rz_chronicle.specs.Holds.{Stays}
 use Rattle.rz_chronicle.specs.Rules.{PassView}
 use Rattle.rz_threads_steps.proofs.Added.{count-length}
