@@ -1,7 +1,6 @@
 -- What the administrator did, beside others who go on.
-use Rattle.std.proofs.Common.{ℕ, true, false, ◌≡◌, ◌≢◌, ◌+◌, ◌<◌, List, [], ◌∷◌, ◌++◌, Option, Some, None, length, get_or, take, drop, refl, sym, subst, ap, ◌∙◌, append_assoc, take-append-drop}
+use Rattle.std.proofs.Common.{ℕ, true, false, ◌≡◌, ◌≢◌, ◌+◌, ◌<◌, List, [], ◌∷◌, ◌++◌, Option, Some, None, length, get_or, take, drop, refl, sym, subst, ap, ◌∙◌, take-append-drop}
 use Rattle.std.proofs.lemmas.List.{take_more}
-use Rattle.rz_events.specs.declared.keys.Actor.{Actor}
 use Rattle.rz_events.specs.declared.keys.Actor.TheVariants.{Admin}
 use Rattle.rz_events.specs.declared.nodes.NodeAsk.{NodeAsk}
 use Rattle.rz_events.specs.declared.nodes.NodeAsk.TheVariants as ask
@@ -12,21 +11,20 @@ use Rattle.rz_events.specs.declared.events.Word.TheVariants.{Node}
 use Rattle.rz_events.specs.declared.events.Event.{Event}
 use Rattle.rz_events.specs.declared.events.Event.TheVariants as e
 use Rattle.rz_node_model.specs.NodeEvents.{node_event}
-use Rattle.rz_core.specs.History.{facts, of_actor, of_word}
+use Rattle.rz_core.specs.History.{facts, of_word}
 use Rattle.rz_core.specs.Tied.{IsNode}
 use Rattle.rz_script.specs.declared.line.Line.{Line}
 use Rattle.rz_script.specs.declared.line.Line.TheVariants as line
 use Rattle.rz_play.specs.Lines.{noted}
-use Rattle.rz_chronicle.specs.Keys.{IsLater, IsOneOf, events_at, actor_key}
+use Rattle.rz_chronicle.specs.Keys.{IsLater, IsOneOf, actor_key}
 use Rattle.rz_chronicle.specs.Holds.{Stays}
+use Rattle.rz_chronicle.proofs.Settling.{later-still}
 use Rattle.rz_shared_locked.proofs.Behind.{alone, honest-keeps}
 use Rattle.rz_shared_locked.specs.LockedNodes.{Answered, IsAnswerAt, IsAskerRight}
+use Rattle.rz_threads_steps.proofs.Added.{AreKept}
 use Rattle.rz_threads.specs.Orders.{IsAdminAsk, is_want, Waits, IsOrderAnswered, IsNodeCalled, IsArmingDone, IsLineDone, AreDone, AreLinesBegun}
 
 -- Waiting.
-
-later-still : (a b c : List Event) → IsLater a b → IsLater b c → IsLater a c
-later-still a b c p q = (q.0 ++ p.0, q.1 ∙ (ap (λ (l : List Event). q.0 ++ l) p.1 ∙ sym (append_assoc q.0 p.0 a)))
 
 pub waits-none : (h : List Event) → Waits h h
 waits-none h = record { later = ([], refl); own = refl }
@@ -35,9 +33,6 @@ pub waits-on : (a b c : List Event) → Waits a b → Waits b c → Waits a c
 waits-on a b c p q = record { later = later-still a b c p.later q.later; own = q.own ∙ p.own }
 
 -- One call.
-
-abbrev pub AreKept : Type 0
-AreKept = (a : Actor) (h g : List Event) → events_at (actor_key a) h ≡ events_at (actor_key a) g → of_actor a h ≡ of_actor a g
 
 -- the administrator alone calls a node so
 pub for-admin : (question : NodeAsk) → IsAdminAsk question → IsAskerRight Admin question

@@ -12,6 +12,7 @@ use Rattle.rz_chronicle.specs.Keys.{events_at, word_key}
 use Rattle.rz_chronicle.specs.Holds.{IsWordSettled}
 use Rattle.rz_chronicle.specs.Kinds.{volume_in}
 use Rattle.rz_chronicle.specs.Rules.{WordTokenView}
+use Rattle.rz_chronicle.proofs.Same.{word-same}
 use Rattle.rz_shared_locked.proofs.Behind.{alone, honest-keeps}
 use Rattle.rz_shared_locked.specs.Counts.{AreCountedSince}
 use Rattle.rz_shared.specs.Returned.{IsReturned}
@@ -27,16 +28,13 @@ pub distinct-tail : (x : ℕ) (xs : List ℕ) → IsDistinct nat_eq (x ∷ xs) �
 unfolding IsDistinct
 distinct-tail x xs d = d.1
 
-abbrev pub AreWordsKept : Type 0
-AreWordsKept = (w : Word) (h g : List Event) → events_at (word_key w) h ≡ events_at (word_key w) g → of_word w h ≡ of_word w g
-
-module _ {D : Type 0} (meter : D → Meter) (image : D → List ℕ → Type 0) (kind : List ℕ) (earlier : List Event) (anew : earlier ≡ []) (first : ℕ → ℕ) (kept : AreWordsKept) (log : List Event) where
+module _ {D : Type 0} (meter : D → Meter) (image : D → List ℕ → Type 0) (kind : List ℕ) (earlier : List Event) (anew : earlier ≡ []) (first : ℕ → ℕ) (log : List Event) where
   -- a disk beside the token of its own node
   left-own : (d : D) (p : WordTokenView) → IsWordSettled p log → (r : IsReturned meter image kind earlier first d p) → IsDiskLeft meter image kind first log r.node d
   left-own d p settled r =
       let key : word_key p.word ≡ word_key (Node r.node) = ap word_key r.word in
       let events : events_at (word_key (Node r.node)) log ≡ events_at (word_key (Node r.node)) p.log = subst (λ (k : ℕ). events_at k log ≡ events_at k p.log) key (settled.1 (word_key p.word) (inl refl)) in
-      let same : of_word (Node r.node) log ≡ of_word (Node r.node) p.log = kept (Node r.node) log p.log events in
+      let same : of_word (Node r.node) log ≡ of_word (Node r.node) p.log = word-same (Node r.node) log p.log events in
       record {
         images = λ honest. subst (λ (h : List Event). AreImages (volume_in kind) (facts h) (of_word (Node r.node) h) r.node (geometry_in (volume_in kind) r.node) (image d)) (alone log earlier anew)
             (r.images (honest-keeps kind honest) log settled.0 events);

@@ -11,13 +11,13 @@ use Rattle.rz_play.specs.World.{actors}
 use Rattle.rz_play_locks.proofs.Barring.{of-actors}
 use Rattle.rz_chronicle.specs.Keys.{IsOneOf, owner, word_key}
 use Rattle.rz_chronicle.specs.Rules.{PassView, WordTokenView}
+use Rattle.rz_chronicle.proofs.Settling.{one-of-left, one-of-right}
 use Rattle.rz_threads_workers.specs.Gathered.{PassGoesOn, HoldsPass}
 use Rattle.rz_threads_workers.specs.Moves.{HoldsAll}
 use Rattle.rz_threads_workers.specs.declared.pool_worker.PoolWorker.{PoolWorker}
 use Rattle.rz_threads_workers.specs.WorkerPool.{HasWorked, actor_of, pass_of}
-use Rattle.rz_threads.proofs.Gathering.{one-of-left, one-of-right}
 
--- The keys of a desk's posts are those of their words.
+-- The keys of a desk's tokens are those of their words.
 
 keys-of-words : (ps : List WordTokenView) → map (λ (p : WordTokenView). word_key p.word) ps ≡ map word_key (map (λ (p : WordTokenView). p.word) ps)
 keys-of-words [] = refl
@@ -28,7 +28,7 @@ pub desk-keys : (old new : List ℕ) (export : WordTokenView) (ps : List WordTok
 desk-keys old new export ps sids is first nodes =
     is ∙ ap (λ (ks : List ℕ). old ++ ks) (keys-of-words (export ∷ ps) ∙ ap (map word_key) (ap₂ (λ (a : Word) (words : List Word). a ∷ words) first nodes))
 
--- PoolWorkers that have worked are the same actors.
+-- Workers that have worked are the same actors.
 
 pub same-actors : {J L : Type 0} (count : L → ℕ) (kind : List ℕ) (ms ns : List (PoolWorker J L)) → AllZip (HasWorked count kind) ms ns → map (λ (p : PassView). p.actor) (map pass_of ns) ≡ map actor_of ms
 same-actors count kind [] [] all = refl

@@ -1,4 +1,4 @@
-//! PoolWorkers at work, each on its thread, and the administrator beside them.
+//! Workers at work, each on its thread, and the administrator beside them.
 ghost use Rattle.std.specs.Prelude.{◌≡◌, ◌<◌, ◌≤◌, length};
 ghost use Rattle.std.specs.List.{AllByRecursion, AllZip};
 ghost use Rattle.rz_script.specs.Lines.{AreLines};

@@ -40,7 +40,6 @@ fn settled<D: Disk, J: Counting>(
     ensures disks { AllZip (IsDiskLeft D.meter D.image J.kind J.first front.new.log) (sids_of cluster) result.items }
     ensures fit { IsFit J.kind front.new.log }
 {
-    rz_chronicle::words_kept();
     let (disks, desk) = cluster.close();
     book.settle(front, desk);
     disks

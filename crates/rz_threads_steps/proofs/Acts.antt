@@ -1,6 +1,6 @@
 -- What an act leaves of a pass, of a turn and of an operation.
 use Rattle.std.proofs.Common.{◌≡◌, ℕ, Bool, true, false, IsTrue, List, [], ◌∷◌, ◌++◌, Option, Some, None, Result, Ok, Err, refl, sym, ◌∙◌, ap, subst, inl, inr, append_assoc}
-use Rattle.std.specs.Prelude.{OnErr, IfSome}
+use Rattle.std.specs.Prelude.{OnErr, OnOk, IfSome}
 use Rattle.mj_angles.specs.declared.layout.Layout.{Layout}
 use Rattle.rz_events.specs.Volume.{Volume}
 use Rattle.rz_events.specs.declared.keys.Actor.{Actor}
@@ -43,6 +43,11 @@ use Rattle.rz_threads_steps.specs.Acted.{IsWorkRight, HasActed, IsStopped}
 use Rattle.rz_threads_steps.specs.Adding.{PassLasts, AddsOwn, AddsAlone}
 use Rattle.rz_threads_steps.specs.Turned.{with_fits, WorkGoesOn}
 use Rattle.rz_threads_steps.proofs.ShownEvents.{shown-noted}
+
+-- what is so in any case is so where something went well
+pub on-ok : {T E P : Type 0} (r : Result T E) → P → OnOk r P
+on-ok (Ok x) p = p
+on-ok (Err e) p = tt
 
 -- what is so where something failed
 pub on-err : {T E P : Type 0} (r : Result T E) → P → OnErr r P

@@ -1,10 +1,14 @@
 -- What a machine asks.
-use Rattle.std.specs.Prelude.{◌≡◌}
-use Rattle.rz_operation_model.specs.Ask.{Ask, AskNode}
+use Rattle.std.specs.Prelude.{ℕ, Bool, ◌≡◌, List}
+use Rattle.rz_events.specs.declared.export.Call.{Call}
+use Rattle.rz_operation_model.specs.Ask.{Ask, AskExport, AskLock, AskNode, Rest, Say, Saying}
 use Rattle.rz_threads_steps.specs.declared.stepping.AskKind.{AskKind}
 use Rattle.rz_threads_steps.specs.declared.stepping.AskKind.TheVariants as kind
 
--- what is asked of a node is of this kind
+-- what is asked is of this kind
 abbrev pub IsAskKind : Ask → AskKind → Type 0
+IsAskKind asked kind.Rest = asked ≡ Rest
+IsAskKind asked kind.Export = (c : Call) × (asked ≡ AskExport c)
+IsAskKind asked kind.Lock = (path : List ℕ) × (exclusive : Bool) × (from : ℕ) × (count : ℕ) × (asked ≡ AskLock path exclusive from count)
 IsAskKind asked (kind.Node n question) = asked ≡ AskNode n question
-IsAskKind asked k = Unit {0}
+IsAskKind asked kind.Say = (said : Saying) × (asked ≡ Say said)

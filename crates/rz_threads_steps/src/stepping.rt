@@ -1,8 +1,9 @@
 //! One turn of an operation.
-ghost use Rattle.std.specs.Prelude.{◌≡◌, ◌≤◌, OnOk, OnErr, length};
+ghost use Rattle.std.specs.Prelude.{◌≡◌, ◌≤◌, None, OnOk, OnErr, length};
 ghost use Rattle.mj_angles.specs.Layout.{max_bins_of};
 ghost use Rattle.rz_operation_model.specs.Ask.{ask_of};
 ghost use Rattle.rz_core.specs.History.{of_actor};
+ghost use Rattle.rz_player.specs.Messages.{IsAskSent};
 ghost use Rattle.rz_chronicle.specs.Kinds.{volume_in};
 ghost use Rattle.rz_show.specs.Shown.{shown_of};
 ghost use Rattle.rz_threads_steps.specs.Acted.{IsWorkRight, HasActed, IsStopped};
@@ -68,6 +69,7 @@ pub fn step<R: Wait, D: Disk, J: Metering, L: Link, S: Shows>(
     requires room { max_bins_of (volume_in J.kind).layout ≤ length bins.old }
     requires shows { S.has shown.old (shown_of (of_actor pass.old.actor pass.old.log)) }
     ensures lasts { PassLasts pass.old pass.new }
+    ensures sent { OnOk result (IsAskSent L.says (ask_of machine.old.layout machine.old.work) None pass.old.actor link.old link.new (of_actor pass.old.actor pass.old.log) (of_actor pass.old.actor pass.new.log)) }
     ensures lost { AreLost pass.old.actor pass.old.log pass.new.log (L.lost link.old) (L.lost link.new) }
     ensures shows { S.has shown.new (shown_of (of_actor pass.old.actor pass.new.log)) }
     ensures acted { OnOk result (HasActed J.kind J.earlier number pass.old pass.new machine.old machine.new) }

@@ -1,14 +1,14 @@
 -- Words that are counted one after another, while the tokens of all of them are held.
-use Rattle.std.proofs.Common.{◌≡◌, ◌≤◌, ◌<◌, ◌+◌, ◌++◌, ℕ, zero, suc, List, [], ◌∷◌, Option, Some, None, length, append-nil, append_assoc, sym, refl, ap, ap₂, ◌∙◌, subst, arith}
+use Rattle.std.proofs.Common.{◌≡◌, ◌≤◌, ◌<◌, ◌+◌, ℕ, zero, suc, List, [], Option, Some, None, length, append-nil, sym, refl, ap, ap₂, ◌∙◌, arith}
 use Rattle.rz_events.specs.declared.events.Word.{Word}
 use Rattle.rz_events.specs.declared.events.Event.{Event}
-use Rattle.rz_chronicle.specs.Keys.{IsLater, IsOneOf, events_at, moves_of, owner, word_key}
+use Rattle.rz_chronicle.specs.Keys.{IsLater, events_at, moves_of, owner, word_key}
 use Rattle.rz_chronicle.specs.Holds.{Stays}
 use Rattle.rz_chronicle.specs.Rules.{PassView}
-use Rattle.rz_chronicle.proofs.Settling.{one-of-left}
 use Rattle.rz_threads_steps.proofs.Added.{count-length}
 use Rattle.rz_threads_workers.specs.Gathered.{PassGoesOn}
 use Rattle.rz_threads_workers.specs.Moves.{HoldsAll}
+use Rattle.rz_threads_workers.proofs.Gathered.{goes-nowhere, goes-further}
 
 -- how many events of the words at the first places of a book of these nodes a history has
 unfoldable pub moves_before : ℕ → List ℕ → List Event → ℕ
@@ -18,20 +18,6 @@ moves_before (suc place) sids h = moves_before place sids h + moves_of (owner si
 -- the same of all its 338 places
 abbrev pub moves_in : List ℕ → List Event → ℕ
 moves_in sids h = moves_before 338 sids h
-
--- A pass that goes on, and goes on again.
-
-goes-nowhere : (p : PassView) → PassGoesOn p p
-goes-nowhere p = record { actor = refl; more = []; keys = sym (append-nil p.keys); stays = λ k is. refl; later = ([], refl) }
-
-goes-further : (a b c : PassView) → PassGoesOn a b → PassGoesOn b c → PassGoesOn a c
-goes-further a b c p q = record {
-  actor = q.actor ∙ p.actor;
-  more = p.more ++ q.more;
-  keys = q.keys ∙ (ap (λ (ks : List ℕ). ks ++ q.more) p.keys ∙ append_assoc a.keys p.more q.more);
-  stays = λ k is. q.stays k (subst (IsOneOf k) (sym p.keys) (one-of-left k a.keys p.more is)) ∙ p.stays k is;
-  later = (q.later.0 ++ p.later.0, q.later.1 ∙ (ap (λ (l : List Event). q.later.0 ++ l) p.later.1 ∙ sym (append_assoc q.later.0 p.later.0 a.log)));
-}
 
 -- What a word has moved.
 

@@ -1,7 +1,7 @@
 mod Counts
 mod Totals
 mod Rosters
-mod Gathered
+pub mod Gathered
 mod Pairs
 mod Rolls
 mod PartsMade

@@ -76,7 +76,7 @@ pub record IsPoolWorker {J L : Type 0} (kind : List ℕ) (lines : List Line) (p 
   pub agenda : agenda_of m.worker.agenda ≡ agenda_with (given p.actor lines)
   pub wants : WantsNothing m
 
--- PoolWorkers at work.
+-- Workers at work.
 
 -- A worker has worked, where `count` says how many messages a link has lost. Its events in the log are those of turns from where it
 -- was, each once, and all its operations are done unless memory was wanting.

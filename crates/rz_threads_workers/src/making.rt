@@ -70,7 +70,7 @@ fn make_worker<J: Counting, L: Link>(
     }
 }
 
-/// PoolWorkers with these links, in the order of both, and the emptied row of the links.
+/// Workers with these links, in the order of both, and the emptied row of the links.
 fn make_workers<J: Counting, L: Link>(
     alloc: Global,
     all_parts: Vec<WorkerParts<J>>,

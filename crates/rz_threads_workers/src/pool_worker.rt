@@ -24,7 +24,7 @@ pub struct Results<J: Counting, L: Link> {
     pub shown: Vec<Vec<Event>>,
 }
 
-/// PoolWorkers, and room for what comes back from them.
+/// Workers, and room for what comes back from them.
 #[derive(Drop)]
 pub struct WorkerPool<J: Counting, L: Link> {
     pub workers: Vec<PoolWorker<J, L>>,

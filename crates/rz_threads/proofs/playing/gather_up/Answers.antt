@@ -2,7 +2,8 @@ use Rattle.std.proofs.Common.{subst}
 use Rattle.rz_events.specs.declared.keys.Actor.{Actor}
 use Rattle.rz_chronicle.specs.Keys.{IsOneOf, actor_key, sids_of}
 use Rattle.rz_threads.proofs.Done.{waits-kept}
-use Rattle.rz_threads.proofs.Gathering.{goes-further, held-all}
+use Rattle.rz_threads_workers.proofs.Gathered.{goes-further}
+use Rattle.rz_threads.proofs.Gathering.{held-all}
 use Rattle.rz_threads.proofs.Tallies.{gathered-all}
 use Rattle.rz_threads.proofs.playing.gather_up.Goals as goal
 

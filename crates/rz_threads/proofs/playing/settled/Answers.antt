@@ -21,4 +21,4 @@ returns-clause-disks g c =
     let e = c.settle.ensures in
     let it = c.close-disks.ensures in
     let apart = distinct-tail _ _ (distinct-rest _ _ (subst (IsDistinct nat_eq) e.same.1 e.apart)) in
-    left-all g.D.Disk.meter g.D.Disk.image g.J.Naming.kind g.J.Naming.earlier g.met.J.Counting.anew g.J.Metering.first c.words_kept.ensures _ _ _ _ it.returned e.settles.1 (it.order apart)
+    left-all g.D.Disk.meter g.D.Disk.image g.J.Naming.kind g.J.Naming.earlier g.met.J.Counting.anew g.J.Metering.first _ _ _ _ it.returned e.settles.1 (it.order apart)

@@ -1,4 +1,4 @@
-use Rattle.std.proofs.Common.{◌∙◌, ◌++◌, None, refl, sym, ap, subst}
+use Rattle.std.proofs.Common.{◌++◌, None, refl, sym, ap, subst}
 use Rattle.rz_events.specs.declared.keys.Actor.{Actor}
 use Rattle.rz_events.specs.Borrowed.{call_of}
 use Rattle.rz_export_model.specs.ExportEvents.{export_event}
