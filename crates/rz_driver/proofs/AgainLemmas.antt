@@ -1,20 +1,17 @@
 -- A driver that was opened on the disks which earlier runs left.
-use Rattle.std.proofs.Common.{◌≡◌, ◌⊎◌, inl, inr, ℕ, zero, suc, ◌+◌, ◌-◌, ◌^◌, ◌<◌, ◌≤◌, Bool, true, false, cond, IsTrue, List, [], ◌∷◌, ◌++◌, map, length, Option, Some, None, refl, sym, ◌∙◌, ap, ap₂, subst, arith}
+use Rattle.std.proofs.Common.{◌≡◌, inl, inr, ℕ, zero, suc, ◌+◌, ◌-◌, ◌^◌, ◌<◌, ◌≤◌, Bool, true, false, cond, IsTrue, List, [], ◌∷◌, ◌++◌, map, length, Option, Some, None, refl, sym, ◌∙◌, ap, ap₂, subst, arith}
 use Rattle.std.specs.Prelude.{◌==◌, nat_eq, slice_get, is_some, option_to_list, IfSome}
 use Rattle.std.specs.List.{AllByRecursion, AllZip, zip, IsDistinct}
 use Rattle.std.specs.FinMap as maps
 use Rattle.std.proofs.Math.Path.{fun_ext}
 use Rattle.std.proofs.lemmas.Bool.{eqb-true, eq-eqb}
-use Rattle.std.proofs.lemmas.List.{append-nil, length-append, length-map}
-use Rattle.mj_angles.specs.declared.layout.Layout.{Layout}
+use Rattle.std.proofs.lemmas.List.{length-map}
 use Rattle.mj_angles.specs.Layout.{bsize_of, max_bins_of}
-use Rattle.rz_disk.specs.Images.{Only}
 use Rattle.rz_disk.specs.Meter.{Meter, Rises, faults}
 use Rattle.rz_disk.specs.UnderFuse.{UnderFuse, fused_meter}
 use Rattle.rz_disk.specs.declared.disk.Disk.{Ghosts}
 use Rattle.rz_events.specs.Volume.{Volume, IsVolume, nodes_of}
 use Rattle.rz_events.specs.declared.files.NodeSpec.{NodeSpec}
-use Rattle.rz_events.specs.declared.keys.Actor.{Actor}
 use Rattle.rz_events.specs.declared.keys.Actor.TheVariants.{Client, Rebuilder}
 use Rattle.rz_events.specs.declared.export.Call.{Call}
 use Rattle.rz_events.specs.declared.events.Word.TheVariants.{Node}
@@ -52,21 +49,19 @@ use Rattle.rz_restart_laws.specs.Calls.{calls_told, changing_calls}
 use Rattle.rz_restart_laws.specs.Found.{IsNodeFound, IsStoreFound, StandsByLog}
 use Rattle.rz_restart_laws.specs.Laws.{IsFoundLaw, MayGoOn, CanGoOn}
 use Rattle.rz_locks.specs.Held.{Held}
-use Rattle.rz_play.specs.World.{World, Agenda as APlayer, empty_agenda, world_after}
+use Rattle.rz_play.specs.World.{World, Agenda as APlayer, world_after}
 use Rattle.rz_play_laws.specs.Fine.{IsFine}
-use Rattle.rz_player.specs.Behind.{Before, behind}
-use Rattle.rz_driver_nodes.specs.Images.{AreDisksImaged, AreImaged, HasImages, fused_image}
+use Rattle.rz_player.specs.Behind.{behind}
+use Rattle.rz_driver_nodes.specs.Images.{AreDisksImaged, AreImaged, fused_image}
 use Rattle.rz_driver_nodes.specs.Meters.{AreMetered, GoesWith, OfEach, faults_at, faults_in}
 use Rattle.rz_driver_nodes.specs.Servers.{state_in, numbers_of, IsServer}
 use Rattle.rz_driver.specs.declared.driver.Driver.{Driver}
-use Rattle.rz_driver_actors.specs.declared.actor_agenda.Agenda.{Agenda}
-use Rattle.rz_driver.specs.Continued.{journal_refusal, losses_of, AllOpen, AreLeft, IsCauseAgain, IsJournalCause, IsNodeCause, IsOpenedAgain, IsOpenedOver, IsRefusedOver, IsUnopened, OpensForNode}
+use Rattle.rz_driver.specs.Continued.{journal_refusal, losses_of, AllOpen, IsCauseAgain, IsJournalCause, IsOpenedAgain, IsOpenedOver, IsRefusedOver, OpensForNode}
 use Rattle.rz_driver.specs.Endings.{StandsForLog}
 use Rattle.rz_driver.specs.Journals.{KeepsLog, journal_place, StandsForJournal}
 use Rattle.rz_driver.specs.Coherence.{IsCoherent, KnowsLengths}
 use Rattle.rz_block_laws.specs.Acting.{AreBytes}
-use Rattle.rz_driver_actors.specs.Agendas.{IsEmptyAgenda}
-use Rattle.rz_driver.specs.Worlds.{HasCounted, is_known, left_behind, agenda_in, world_of, numbers_in, IsDriver, GoesAfter, HoldsBetweenTurns}
+use Rattle.rz_driver.specs.Worlds.{HasCounted, is_known, left_behind, world_of, numbers_in, IsDriver, GoesAfter, HoldsBetweenTurns}
 use Rattle.rz_driver.proofs.Cuts.{each-server}
 use Rattle.rz_driver.proofs.KeptCalls.{told-calls}
 use Rattle.rz_driver.proofs.MadeLemmas.{own-cells, empty-in, empty-agendas}

@@ -1,5 +1,5 @@
 -- A turn or an order that was not carried out, and what is left then.
-use Rattle.std.proofs.Common.{◌≡◌, ℕ, ◌<◌, Bool, List, length, Option, Some, None, IfSome, refl, sym, ◌∙◌, ap, subst}
+use Rattle.std.proofs.Common.{◌≡◌, ℕ, ◌<◌, Bool, false, List, length, Option, Some, None, IfSome, refl, sym, ◌∙◌, ap, subst}
 use Rattle.std.specs.Prelude.{slice_get}
 use Rattle.std.specs.Vec.{vec_len}
 use Rattle.std.proofs.lemmas.List.{length-map}
@@ -16,7 +16,7 @@ use Rattle.rz_metadata.specs.declared.journaled.JournalRefusal.TheVariants.{Full
 use Rattle.rz_metadata.specs.declared.metadata.Metadata.{Metadata}
 use Rattle.rz_metadata.specs.declared.metadata.Metadata.TheVariants.{InMemory, Journaled}
 use Rattle.rz_metadata.specs.Journals.{IsRefused}
-use Rattle.rz_metadata.specs.Stands.{IsJournalOpen, refusal_of}
+use Rattle.rz_metadata.specs.Stands.{CountsFaults, IsJournalOpen, is_journaled, refusal_of}
 use Rattle.rz_operation.specs.Machine.{Machine, work_in}
 use Rattle.rz_operation_model.specs.Ask.{ask_of}
 use Rattle.rz_play.specs.Stops.{HasCause, IsChange, JournalRefused, most_turns}
@@ -29,7 +29,7 @@ use Rattle.rz_driver_actors.specs.declared.actor_agenda.Agenda.{Agenda}
 use Rattle.rz_driver.specs.declared.driver.Driver.{Driver}
 use Rattle.rz_driver.specs.Endings.{end_by}
 use Rattle.rz_nodes.specs.declared.formatting.Server.{Server}
-use Rattle.rz_driver.specs.Worlds.{HoldsBetweenTurns, IsDriver, LeavesAtEnd, place_of, world_of}
+use Rattle.rz_driver.specs.Worlds.{HasCounted, HoldsBetweenTurns, IsDriver, LeavesAtEnd, place_of, world_of}
 use Rattle.rz_driver.proofs.WorldLemmas.{agenda-here}
 
 -- a journal that is open refused nothing
@@ -70,3 +70,11 @@ turn-cause {D = D} {G = G} by place d f is a0 a refused at here taken few change
     let there : agenda_of a ≡ at_work ((world_of d).agendas by) = taken ∙ ap at_work (sym (agenda-here d.agendas.items by place a0 at here)) in
     let asked : IsChange (ask_of d.volume.layout (work_in a.machine)) c = subst (λ (o : Option Call). IfSome o (IsChange (ask_of d.volume.layout (work_in a.machine)))) refused_is change in
     subst (λ (x : Driver D G). HasCause x.volume (JournalRefused c) (world_of x) by) is (few, subst (λ (s : APlayer). IsChange (ask_of d.volume.layout s.work) c) there asked)
+
+-- an export in memory counts on no disk
+in-memory : {D : Type 0} (meter : D → Meter) (m : Metadata D) (first : ℕ) → is_journaled m ≡ false → CountsFaults meter first m
+in-memory meter (InMemory s) first is = tt
+in-memory meter (Journaled j) first is = cc
+
+pub counts-none : {D : Type 0} {G : Ghosts D} (d : Driver D G) → IsDriver d → is_journaled d.shared.export ≡ false → (first : ℕ) → HasCounted d first
+counts-none {G = G} d ready memory first = record { each = each-server d ready; journal = in-memory G.meter d.shared.export first memory }

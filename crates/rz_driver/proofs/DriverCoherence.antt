@@ -1,6 +1,6 @@
 -- A driver stays coherent, from one turn or order to the next.
-use Rattle.std.proofs.Common.{◌≡◌, ◌⊎◌, inl, inr, ℕ, ◌+◌, ◌-◌, ◌^◌, ◌<◌, ◌≤◌, Bool, true, false, cond, IsTrue, nat_eq, List, [], ◌∷◌, ◌++◌, length, set, Option, Some, None, refl, sym, ◌∙◌, ap, subst, arith}
-use Rattle.std.proofs.lemmas.List.{append-nil, length-append}
+use Rattle.std.proofs.Common.{◌≡◌, inl, inr, ℕ, ◌+◌, ◌-◌, ◌^◌, ◌<◌, ◌≤◌, Bool, true, false, cond, IsTrue, nat_eq, List, ◌++◌, length, set, Option, Some, None, refl, sym, ◌∙◌, ap, subst, arith}
+use Rattle.std.proofs.lemmas.List.{length-append}
 use Rattle.std.specs.Prelude.{slice_get}
 use Rattle.std.specs.List.{AllByRecursion, IsDistinct}
 use Rattle.std.specs.Vec.{with_items}
@@ -18,11 +18,10 @@ use Rattle.rz_core.specs.Legal.{IsLegalInRuns}
 use Rattle.rz_core.proofs.Extends.{Extends, extends-more}
 use Rattle.rz_script.specs.Lines.{IsLine}
 use Rattle.rz_script.specs.declared.line.Line.{Line}
-use Rattle.rz_operation.specs.Machine.{Machine, text_of, text_asked, work_in, HasLayout}
-use Rattle.rz_operation.specs.Machine as machine
-use Rattle.rz_operation_model.specs.Ask.{Ask, Say, Saying, ask_of}
+use Rattle.rz_operation.specs.Machine.{Machine, text_asked, work_in, HasLayout}
+use Rattle.rz_operation_model.specs.Ask.{ask_of}
 use Rattle.rz_play.specs.World.{World, Agenda as APlayer, with_agenda, at_work}
-use Rattle.rz_play.specs.Turns.{IsTurn, text_said}
+use Rattle.rz_play.specs.Turns.{IsTurn}
 use Rattle.rz_play.specs.Lines.{PlaysLine}
 use Rattle.rz_play_laws.specs.Own.{IsOwnOf, IsOwnProper, HasOwnEvents}
 use Rattle.rz_play_laws.specs.Fine.{IsFine, IsFineIfShort, IsSeated, IsTelling}
@@ -44,7 +43,7 @@ use Rattle.rz_driver.specs.Coherence.{IsCoherent, KnowsLengths}
 use Rattle.rz_block_laws.specs.Acting.{AreBytes}
 use Rattle.rz_driver_actors.specs.Agendas.{agenda_of}
 use Rattle.rz_driver_nodes.specs.Servers.{state_in, numbers_of}
-use Rattle.rz_driver.specs.Worlds.{place_of, world, world_of, numbers_in, IsCoherentAfter, HasRightDisks, HoldsBetweenTurns, LeavesAtEnd}
+use Rattle.rz_driver.specs.Worlds.{place_of, world_of, numbers_in, IsCoherentAfter, HasRightDisks, HoldsBetweenTurns, LeavesAtEnd}
 use Rattle.rz_driver_nodes.proofs.MessageCoherence.{never-bad}
 use Rattle.rz_driver_nodes.proofs.MeterLemmas.{metered-counts, named-vector}
 use Rattle.rz_driver_nodes.proofs.CoherenceLemmas.{all-then, GrowsBy, grows-behind, grown-short, are-right}
@@ -263,18 +262,6 @@ module _ {D : Type 0} {G : Ghosts D} (d : Driver D G) (old : List Event) where
         disks = disks told was.disks;
       }
 
-  -- an actor has more to do, or another plan for its next message
-  pub actor-coherence : (place : ℕ) (s b : Agenda) (turns : ℕ) → slice_get d.agendas.items place ≡ Some s → b.machine ≡ s.machine → ((a : Actor) → ((world d.shared (set d.agendas.items place b) turns).agendas a).work ≡ ((world_of d).agendas a).work)
-      → (IsVolume d.volume → IsFine d.volume old (behind old (world_of d)) → IsFineIfShort d.volume old (behind old (world d.shared (set d.agendas.items place b) turns))) → IsCoherentAfter d old
-      → IsTrue G.tells → length (d.shared.log.events ++ old) < 2 ^ 64 - 1 → IsCoherent (fused_image G.image) d.volume old (world d.shared (set d.agendas.items place b) turns) (set d.agendas.items place b) d.shared.servers.items
-  actor-coherence place s b turns here machine works fine =
-      let v = d.volume in
-      let f = facts (d.shared.log.events ++ old) in
-      coherence-then (world d.shared (set d.agendas.items place b) turns) (set d.agendas.items place b) d.shared.servers.items ([], refl) works (λ told. fine)
-      (λ hands. all-set (λ (t : Agenda). HasTrueHand v f t.machine) d.agendas.items place b hands
-      (subst (HasTrueHand v f) (sym machine) (all-at (λ (t : Agenda). HasTrueHand v f t.machine) d.agendas.items place s hands here)))
-      (λ told disks. disks)
-
 -- ---- of a node, of which the slice of the vector was written
 
 module _ {D : Type 0} {G : Ghosts D} (d : Driver D G) (xs ys : List (Server (UnderFuse D))) (same : xs ≡ d.shared.servers.items) (b : Before) (held : HoldsBetweenTurns d b) where
@@ -293,20 +280,16 @@ module _ {D : Type 0} {G : Ghosts D} (d : Driver D G) (xs ys : List (Server (Und
   then-metered : AreMetered meter (numbers_in d) xs d.shared.log.events b.counts
   then-metered = subst (λ (zs : List (Server (UnderFuse D))). AreMetered meter (numbers_in d) zs d.shared.log.events b.counts) (sym same) held.0
 
-  pub order-holds : ((v : Volume) → IsLastingLaw v) → (next : World) → next.agendas ≡ (world_of d).agendas → GrowsBy d.shared.log.events next.log → (IsTrue G.tells → NodesStayCoherent (fused_image G.image) xs d.shared.log.events ys next.log)
-      → (IsTrue G.tells → IsVolume d.volume → IsFine d.volume b.log (behind b.log (world_of d)) → IsFineIfShort d.volume b.log (behind b.log next))
-      → ((numbers : List ℕ) → CarriesCounts (AreMetered meter numbers xs d.shared.log.events) (AreMetered meter numbers ys next.log))
-      → AreMetered meter (numbers_in d) items next.log b.counts × (IsTrue G.tells → length (next.log ++ b.log) < 2 ^ 64 - 1 → IsCoherent (fused_image G.image) d.volume b.log next d.agendas.items items)
-  order-holds lasting next agendas grown keeps fine holds =
-      let v = d.volume in
-      let was = then-metered in
-      let now = holds (numbers_in d) b.counts was in
-      let is : items ≡ ys = written (now.named ∙ sym was.named) in (
-        subst (λ (zs : List (Server (UnderFuse D))). AreMetered meter (numbers_in d) zs next.log b.counts) (sym is) now,
-        coherence-then d b.log next d.agendas.items items grown (λ a. ap (λ (f : Actor → APlayer). (f a).work) agendas) fine
-            (λ hands. hands-last v (lasting v) here (next.log ++ b.log) (grows-behind b.log d.shared.log.events next.log grown) d.agendas.items hands)
-            (λ told disks. subst (AreImaged (fused_image G.image) v (facts (next.log ++ b.log))) (sym is) (keeps told v b.log (subst (AreImaged (fused_image G.image) v (facts here)) (sym same) disks))) held.1,
-      )
+  pub order-holds : {h' : List Event} → ((numbers : List ℕ) → CarriesCounts (AreMetered meter numbers xs d.shared.log.events) (AreMetered meter numbers ys h')) → AreMetered meter (numbers_in d) items h' b.counts × (items ≡ ys)
+  order-holds {h' = h'} holds =
+      let now = holds (numbers_in d) b.counts then-metered in
+      let is : items ≡ ys = written (now.named ∙ sym then-metered.named) in
+      (subst (λ (zs : List (Server (UnderFuse D))). AreMetered meter (numbers_in d) zs h' b.counts) (sym is) now, is)
+
+  pub order-images : (h' : List Event) → items ≡ ys → (IsTrue G.tells → NodesStayCoherent (fused_image G.image) xs d.shared.log.events ys h')
+      → IsTrue G.tells → AreImaged (fused_image G.image) d.volume (facts here) d.shared.servers.items → AreImaged (fused_image G.image) d.volume (facts (h' ++ b.log)) items
+  order-images h' is keeps told disks =
+      subst (AreImaged (fused_image G.image) d.volume (facts (h' ++ b.log))) (sym is) (keeps told d.volume b.log (subst (AreImaged (fused_image G.image) d.volume (facts here)) (sym same) disks))
 
   pub order-leaves : (h' : List Event) → h' ≡ d.shared.log.events → (IsTrue G.tells → NodesUnchanged (fused_image G.image) xs d.shared.log.events ys)
       → ((numbers : List ℕ) → CarriesCounts (AreMetered meter numbers xs d.shared.log.events) (AreCounted meter numbers ys h'))

@@ -1,5 +1,5 @@
 -- A driver's log beside the meters of its disks.
-use Rattle.std.proofs.Common.{ℕ, ◌≡◌, List, Option, inl, inr, sym, subst}
+use Rattle.std.proofs.Common.{◌≡◌, List, Option, inl, inr, sym, subst}
 use Rattle.rz_events.specs.declared.export.Call.{Call}
 use Rattle.rz_events.specs.declared.events.Event.{Event}
 use Rattle.rz_disk.specs.declared.disk.Disk.{Ghosts}

@@ -1,5 +1,5 @@
 -- For which calls a journal's disk stands that is handed back.
-use Rattle.std.proofs.Common.{◌≡◌, ◌≢◌, ℕ, Bool, IsTrue, List, [], ◌∷◌, ◌++◌, Option, Some, None, refl, sym, ◌∙◌, ap, subst}
+use Rattle.std.proofs.Common.{◌≡◌, ◌≢◌, ℕ, Bool, IsTrue, List, Option, Some, None, refl, sym, ◌∙◌, ap, subst}
 use Rattle.rz_disk.specs.Meter.{Meter, Rises, faults}
 use Rattle.rz_events.specs.Volume.{Volume}
 use Rattle.rz_events.specs.declared.export.Call.{Call}
@@ -12,7 +12,7 @@ use Rattle.rz_metadata.specs.declared.journaled.JournalRefusal.{JournalRefusal}
 use Rattle.rz_metadata.specs.declared.journaled.JournalRefusal.TheVariants.{Full, Failed}
 use Rattle.rz_metadata.specs.declared.metadata.Metadata.{Metadata}
 use Rattle.rz_metadata.specs.declared.metadata.Metadata.TheVariants.{InMemory, Journaled}
-use Rattle.rz_metadata.specs.Stands.{CountsFaults, export_in, disk_of, refusal_of, IsJournalKept, IsCallLeft, IsLeftBy, OverfillsHalf, Stands}
+use Rattle.rz_metadata.specs.Stands.{CountsFaults, export_in, disk_of, refusal_of, IsJournalKept, IsLeftBy, OverfillsHalf, Stands}
 use Rattle.rz_metadata.specs.Journals.{EndsWith, IsRefused}
 use Rattle.rz_driver.specs.Endings.{AreCallsOf, StandFor, StandForEither, StandsForLog, EndsFor, EndsAsRefused}
 use Rattle.rz_driver.specs.Journals.{KeepsLog, EndsLog}

@@ -6,7 +6,6 @@ use Rattle.rz_events.specs.declared.keys.Actor.{Actor}
 use Rattle.rz_events.specs.declared.keys.Actor.TheVariants.{Admin}
 use Rattle.rz_events.specs.declared.nodes.NodeAnswer.{NodeAnswer}
 use Rattle.rz_events.specs.declared.nodes.NodeAsk.{NodeAsk}
-use Rattle.rz_events.specs.declared.nodes.NodeAsk.TheVariants as ask
 use Rattle.rz_events.specs.declared.export.Call.{Call}
 use Rattle.rz_events.specs.declared.events.Event.{Event}
 use Rattle.rz_events.specs.declared.events.Event.TheVariants as e
@@ -30,8 +29,6 @@ use Rattle.rz_driver_asks.specs.Asked.{call_asked}
 use Rattle.rz_driver_asks.specs.Parts.{IsNoted}
 use Rattle.rz_metadata.specs.declared.metadata.Metadata.{Metadata}
 use Rattle.rz_metadata.specs.Stands.{export_in, Stands}
-use Rattle.rz_nodes.specs.declared.formatting.Server.{Server}
-use Rattle.rz_driver_nodes.specs.Administration.{IsStarted}
 use Rattle.rz_driver_nodes.proofs.EventWords.{node-word}
 use Rattle.rz_driver_nodes.proofs.CoherenceLemmas.{GrowsBy, grows-behind, grown-short}
 use Rattle.rz_driver.specs.declared.driver.Driver.{Driver}
@@ -50,9 +47,6 @@ use Rattle.rz_driver.proofs.KeptCalls.{calls-more, calls-same}
 -- an order to a node
 pub order-stays : (n : ℕ) (question : NodeAsk) (given : NodeAnswer) (h h' : List Event) → h' ≡ noted (node_event Admin n question given) h → of_word Export h' ≡ of_word Export h
 order-stays n question given h h' log_is = ap (of_word Export) log_is ∙ noted-stays n (node_event Admin n question given) h (node-word Admin n question given)
-
-pub started-stays : {D : Type 0} (n : ℕ) (xs ys : List (Server D)) (h h' : List Event) → IsStarted n xs ys h h' → of_word Export h' ≡ of_word Export h
-started-stays n xs ys h h' o = order-stays o.server.sid ask.Start o.order.given h h' (o.log_is ∙ ap (λ (x : Option Event). noted x h) o.order.event_is)
 
 pub arming-stays : (n passes pick : ℕ) (h h' : List Event) → h' ≡ e.Armed n passes pick ∷ h → of_word Export h' ≡ of_word Export h
 arming-stays n passes pick h h' log_is = ap (of_word Export) log_is ∙ node-stays n (e.Armed n passes pick) h refl
@@ -148,25 +142,14 @@ module _ {D : Type 0} {G : Ghosts D} (d e : Driver D G) (volume : e.volume ≡ d
         (was.0, subst (λ (k : List Event). AreCallsOf G.tells (k ++ b.log) was.0) (sym same) was.1, ends (b.counts (journal_place d)) was.0 was.2);
   }
 
-  -- where nothing was noted
-  journal-as-it-was : h' ≡ h → e.shared.export ≡ d.shared.export → StandsForJournal e b
-  journal-as-it-was same export = journal-now
-      (subst (λ (k : List Event). IsTrue G.tells → AreBytes (facts (k ++ b.log))) (sym same) had-bytes)
-      (subst (λ (k : List Event). length (k ++ b.log) < 2 ^ 64 - 1 → Keeps e.shared.export (k ++ b.log)) (sym same)
-      (subst (λ (m : Metadata D). length (h ++ b.log) < 2 ^ 64 - 1 → Keeps m (h ++ b.log)) (sym export) had-calls))
-
 -- where nothing was asked of the export
 module _ {D : Type 0} {G : Ghosts D} (d e : Driver D G) (volume : e.volume ≡ d.volume) (export : e.shared.export ≡ d.shared.export) (b : Before) (has : is_known G.tells b ≡ true → StandsForJournal d b) where
   stored : IsSameStore G.meter d.shared.export e.shared.export
   stored = same-store G.meter d.shared.export e.shared.export export
 
-  -- a node was ordered something
+  -- after a line that takes no turn
   pub journal-ordered : IsNoCall d.volume → IsCoherentAfter d b.log → GrowsBy d.shared.log.events e.shared.log.events → of_word Export e.shared.log.events ≡ of_word Export d.shared.log.events → is_known G.tells b ≡ true → StandsForJournal e b
   journal-ordered untold coherence grown same known = journal-no-more d e volume stored b d.shared.log.events refl has known coherence grown untold export same
-
-  -- an actor was
-  pub journal-stays : e.shared.log.events ≡ d.shared.log.events → is_known G.tells b ≡ true → StandsForJournal e b
-  journal-stays same known = journal-as-it-was d e volume stored b d.shared.log.events refl has known same export
 
   pub journal-still : e.shared.log.events ≡ d.shared.log.events → is_known G.tells b ≡ true → LeavesJournal e None b
   journal-still same known = journal-ends d e volume stored b d.shared.log.events refl has known same None

@@ -17,6 +17,7 @@ mod ExportWords
 mod KeptCalls
 mod Cuts
 mod JournalLemmas
+mod LineOrders
 pub mod JournalEndings
 mod BehindJournal
 mod Closed

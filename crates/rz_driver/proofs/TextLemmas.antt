@@ -1,9 +1,8 @@
 -- A text that is said is that of the write which it names, by the whole log.
-use Rattle.std.proofs.Common.{◌≡◌, ◌⊎◌, inl, inr, ℕ, Bool, true, false, cond, ◌==◌, ◌*◌, ◌<◌, ◌≤◌, List, [], ◌∷◌, ◌++◌, length, take, Option, Some, None, refl, sym, ◌∙◌, ap, subst}
+use Rattle.std.proofs.Common.{◌≡◌, inl, inr, ℕ, Bool, true, false, cond, ◌==◌, ◌*◌, ◌<◌, ◌≤◌, List, [], ◌∷◌, length, take, Option, Some, None, refl, sym, ◌∙◌, ap, subst}
 use Rattle.std.specs.Prelude.{slice_index, IsSomeAnd}
 use Rattle.std.specs.List.{All}
 use Rattle.mj_angles.specs.declared.layout.Layout.{Layout}
-use Rattle.mj_angles.specs.declared.layout.Layout.TheVariants as layouts
 use Rattle.mj_angles.specs.Layout.{inverse_of, cols_of, block_bytes_of}
 use Rattle.mj_inverse.specs.Fits.{Pair}
 use Rattle.rz_words.specs.Grid.{Grid, bytes_from}
@@ -30,12 +29,11 @@ use Rattle.rz_operation_model.specs.Rebuild.{Probing, Enrolling, Replacing, List
 use Rattle.rz_operation_model.specs.Ask.{Say, Saying, SayGot, SayGave, SayLeft, SayDone, ask_of, is_part, gave, read_asks, write_asks, rebuild_asks, lock_asks}
 use Rattle.rz_operation.specs.Machine.{text_found}
 use Rattle.rz_operation.specs.Machine as machine
-use Rattle.rz_core.specs.History.{Facts, Begun, facts, wrote, begun_by, first_some, text_in}
+use Rattle.rz_core.specs.History.{Facts, Begun, facts, wrote, text_in}
 use Rattle.rz_core.specs.HeldRecords.{block_of}
 use Rattle.rz_core.specs.Legal.{IsLegalInRuns}
-use Rattle.rz_core.proofs.Extends.{wrote-more}
 use Rattle.rz_core.proofs.Stamps.{wrote-cases, begun_by-is}
-use Rattle.rz_play.specs.Turns.{found_text, text_said}
+use Rattle.rz_play.specs.Turns.{text_said}
 use Rattle.rz_block_laws.specs.InHand.{IsInHand, IsReadInHand, IsWriteBlock}
 use Rattle.rz_block_laws.proofs.Sayings.{room, same-begun, same-saying}
 use Rattle.rz_driver.specs.Coherence.{KnowsLength, KnowsLengths}

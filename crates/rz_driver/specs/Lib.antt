@@ -1,5 +1,6 @@
 pub mod Journals
 pub mod Worlds
+pub mod Orders
 pub mod Coherence
 pub mod OnlyAsked
 pub mod AskedLaws

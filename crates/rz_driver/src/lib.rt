@@ -13,7 +13,7 @@
 //! After a play [`Driver::published`] and [`Driver::fetch`] show what is published and what the nodes hold,
 //! without an event: so a driver is a `ScrubbedStore`.
 //!
-//! In reading order: `driver`, `turns`, `orders`, `nodes`, `parts`, `making`, `closing`, `journaling`,
+//! In reading order: `driver`, `turns`, `orders`, `parts`, `making`, `closing`, `journaling`,
 //! `continuing`, `stage`, `asking`.
 #![tactic(auto)]
 
@@ -23,7 +23,6 @@ mod continuing;
 mod driver;
 mod journaling;
 mod making;
-mod nodes;
 mod orders;
 mod parts;
 mod stage;

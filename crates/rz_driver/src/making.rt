@@ -1,11 +1,11 @@
 //! A new driver: each disk is formatted, and nothing is played.
-ghost use Rattle.std.specs.Prelude.{◌≡◌, true, false, IfOk, IfErr, length};
+ghost use Rattle.std.specs.Prelude.{◌≡◌, ℕ, true, false, IfOk, IfErr, length};
 ghost use Rattle.rz_events.specs.Volume.{nodes_of};
 ghost use Rattle.rz_metadata.specs.Stands.{is_journaled};
 ghost use Rattle.rz_play.specs.World.{new_world};
 ghost use Rattle.rz_nodes.specs.Formatted.{AreBack, AreFormatted, IsCause};
 ghost use Rattle.rz_driver_nodes.specs.Meters.{faults_at};
-ghost use Rattle.rz_driver.specs.Worlds.{anew, world_of, IsDriver, HoldsBetweenTurns};
+ghost use Rattle.rz_driver.specs.Worlds.{HasCounted, anew, world_of, IsDriver, HoldsBetweenTurns};
 
 use crate::driver::Driver;
 use crate::parts::{new_export, new_parts};
@@ -32,6 +32,10 @@ impl<D: Disk> Driver<D> {
         ensures world { IfOk result (λ d. world_of d ≡ new_world volume.now) }
         ensures made { IfOk result (λ d. AreFormatted D.tells D.meter D.text D.image volume.now.layout (nodes_of volume.now.clusters) disks.items d.shared.servers.items) }
         ensures held { IfOk result (λ d. HoldsBetweenTurns d (anew (faults_at D.meter disks.items))) }
+
+        // No disk is a journal's.
+        ensures counted { IfOk result (λ d. (first : ℕ) → HasCounted d first) }
+
         ensures back { IfErr result (λ r. AreBack D.tells D.meter D.image volume.now.layout (nodes_of volume.now.clusters) disks.items r.0.items) }
         ensures cause { IfErr result (λ r. IsCause D.meter disks.items r.0.items r.1) }
     {

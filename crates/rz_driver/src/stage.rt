@@ -2,8 +2,10 @@
 ghost use Rattle.std.specs.Prelude.{◌≡◌};
 
 use crate::driver::Driver;
+use crate::orders::{add_operation, plan_miss};
 use rz_disk::Disk;
-use rz_events::{Actor, Event};
+use rz_driver_nodes::{arm_node, order_node, start_node};
+use rz_events::{Actor, Event, NodeAsk};
 use rz_link::Link;
 use rz_metadata::JournalRefusal;
 use rz_player::{Halted, LoggedStage, PlayEnd, Stage};
@@ -56,13 +58,26 @@ impl<D: Disk> Stage for Driver<D> {
     }
 
     fn order(&mut self, line: &Line) -> Result<(), Halted> {
+        rz_play_laws::lined();
+        rz_block_laws::lasting();
+        rz_restart_laws::untold();
+        let alloc = self.alloc;
+        let agendas = &mut self.agendas;
+        let servers = &mut self.shared.servers;
+        let log = &mut self.shared.log;
         match line {
-            Line::Op { by, op } => self.add_operation(*by, op),
-            Line::Miss { by, reply } => self.plan_miss(*by, *reply),
-            Line::Stop { node } => self.order_stop(*node),
-            Line::Start { node } => self.order_start(*node),
-            Line::Lose { node } => self.order_loss(*node),
-            Line::Break { node, k, pick } => self.arm(*node, *k, *pick),
+            Line::Op { by, op } => add_operation(alloc, agendas.as_mut_slice(), *by, op),
+            Line::Miss { by, reply } => plan_miss(agendas.as_mut_slice(), *by, *reply),
+            Line::Stop { node } => order_node(servers.as_mut_slice(), log, *node, &NodeAsk::Stop),
+            Line::Lose { node } => order_node(servers.as_mut_slice(), log, *node, &NodeAsk::Lose),
+            Line::Start { node } => start_node(alloc, servers.as_mut_slice(), log, *node),
+            Line::Break { node, k, pick } => arm_node(
+                servers.as_mut_slice(),
+                log,
+                *node,
+                *k,
+                *pick,
+            ),
             Line::Turn { .. } | Line::Rounds { .. } | Line::Rest => Ok(()),
         }
     }

@@ -4,14 +4,11 @@ use Rattle.rz_disk.specs.declared.disk.Disk.{Ghosts}
 use Rattle.rz_events.specs.Volume.{Volume}
 use Rattle.rz_node_model.specs.States.{NodeState, fresh}
 use Rattle.rz_export_model.specs.Export.{Export, new_export}
-use Rattle.rz_metadata.specs.declared.metadata.Metadata.{Metadata}
-use Rattle.rz_metadata.specs.declared.metadata.Metadata.TheVariants.{InMemory, Journaled}
-use Rattle.rz_metadata.specs.Stands.{CountsFaults, export_in, is_journaled}
+use Rattle.rz_metadata.specs.Stands.{export_in}
 use Rattle.rz_driver_nodes.specs.Meters.{faults_at}
 use Rattle.rz_driver_nodes.specs.Servers.{state_in}
 use Rattle.rz_driver.specs.declared.driver.Driver.{Driver}
-use Rattle.rz_driver.specs.Worlds.{HasCounted, HoldsBetweenTurns, IsDriver, anew, world_of}
-use Rattle.rz_driver.proofs.Cuts.{each-server}
+use Rattle.rz_driver.specs.Worlds.{HoldsBetweenTurns, anew, world_of}
 use Rattle.rz_play.specs.World.{new_world, world_after}
 use Rattle.rz_request.specs.declared.wishes.Wish.{Wish}
 use Rattle.rz_request.specs.declared.wishes.Wish.TheVariants.{Replay, Load, Scrub, First, Again}
@@ -57,14 +54,6 @@ plain-unjournaled (Load seed) plain = refl
 plain-unjournaled Scrub plain = refl
 plain-unjournaled First plain = absurd plain
 plain-unjournaled Again plain = absurd plain
-
--- an export in memory counts on no disk
-in-memory : {D : Type 0} {G : Ghosts D} (m : Metadata D) (first : ℕ) → is_journaled m ≡ false → CountsFaults G.meter first m
-in-memory (InMemory s) first is = tt
-in-memory (Journaled j) first is = cc
-
-pub counts-none : {D : Type 0} {G : Ghosts D} (d : Driver D G) → IsDriver d → is_journaled d.shared.export ≡ false → (first : ℕ) → HasCounted d first
-counts-none {G = G} d ready memory first = record { each = each-server d ready; journal = in-memory {G = G} d.shared.export first memory }
 
 -- without a journal
 pub unjournaled : (wish : Wish) → wish ≢ First → wish ≢ Again → has_journal wish ≡ false

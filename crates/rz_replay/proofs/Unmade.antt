@@ -102,14 +102,14 @@ module _ {D : Type 0} (G : Ghosts D) (r : Request) (old new : List D) (lost : �
   )
 
   by-wish : (w : Wish) → r.wish ≡ w → (why : Stop) → length old ≡ disks_for w r.script → Unmade w why → Stops why sink status → PlaysRequest G r old new lost sink status h
-  by-wish First is why count unmade fails = no-first is count unmade.0 unmade.1 unmade.3 (subst (λ (s : Stop). Stops s sink status) unmade.2 fails)
-  by-wish Again is why count unmade fails = no-again is unmade.0 unmade.1 unmade.3 (subst (λ (s : Stop). Stops s sink status) unmade.2 fails)
+  by-wish First is why count unmade fails = no-first is count unmade.0 unmade.1.0 unmade.1.2 (subst (λ (s : Stop). Stops s sink status) unmade.1.1 fails)
+  by-wish Again is why count unmade fails = no-again is unmade.0 unmade.1.0 unmade.1.2 (subst (λ (s : Stop). Stops s sink status) unmade.1.1 fails)
   by-wish Replay is why count unmade fails =
-      no-new (λ e. (let other : Replay ≡ First = sym is ∙ e in cc)) (λ e. (let other : Replay ≡ Again = sym is ∙ e in cc)) count unmade.0 unmade.1 unmade.3 (subst (λ (s : Stop). Stops s sink status) unmade.2 fails)
+      no-new (λ e. (let other : Replay ≡ First = sym is ∙ e in cc)) (λ e. (let other : Replay ≡ Again = sym is ∙ e in cc)) count unmade.0 unmade.1.0 unmade.1.2 (subst (λ (s : Stop). Stops s sink status) unmade.1.1 fails)
   by-wish (Load seed) is why count unmade fails =
-      no-new (λ e. (let other : Load seed ≡ First = sym is ∙ e in cc)) (λ e. (let other : Load seed ≡ Again = sym is ∙ e in cc)) count unmade.0 unmade.1 unmade.3 (subst (λ (s : Stop). Stops s sink status) unmade.2 fails)
+      no-new (λ e. (let other : Load seed ≡ First = sym is ∙ e in cc)) (λ e. (let other : Load seed ≡ Again = sym is ∙ e in cc)) count unmade.0 unmade.1.0 unmade.1.2 (subst (λ (s : Stop). Stops s sink status) unmade.1.1 fails)
   by-wish Scrub is why count unmade fails =
-      no-new (λ e. (let other : Scrub ≡ First = sym is ∙ e in cc)) (λ e. (let other : Scrub ≡ Again = sym is ∙ e in cc)) count unmade.0 unmade.1 unmade.3 (subst (λ (s : Stop). Stops s sink status) unmade.2 fails)
+      no-new (λ e. (let other : Scrub ≡ First = sym is ∙ e in cc)) (λ e. (let other : Scrub ≡ Again = sym is ∙ e in cc)) count unmade.0 unmade.1.0 unmade.1.2 (subst (λ (s : Stop). Stops s sink status) unmade.1.1 fails)
 
   pub not-made : (why : Stop) → length old ≡ disks_for r.wish r.script → Unmade r.wish why → Stops why sink status → PlaysRequest G r old new lost sink status h
   not-made = by-wish r.wish refl

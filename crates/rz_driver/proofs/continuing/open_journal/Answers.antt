@@ -1,4 +1,4 @@
-use Rattle.std.proofs.Common.{List, sym, ◌∙◌, subst}
+use Rattle.std.proofs.Common.{sym, ◌∙◌, subst}
 use Rattle.rz_events.specs.Volume.{Volume}
 use Rattle.rz_journal.specs.Opening.{IsJournalRefused}
 use Rattle.rz_metadata.specs.Reopened.{AllTextsOf, MakesExport}

@@ -8,7 +8,7 @@ use Rattle.rz_play.specs.World.{new_world}
 use Rattle.rz_restart_laws.specs.Earlier.{IsEarlier, IsRestarted}
 use Rattle.rz_request.specs.declared.wishes.Wish.{Wish}
 use Rattle.rz_replay.specs.Drivers.{BeginsAs, has_journal}
-use Rattle.rz_replay.proofs.Beginnings.{IsPlain, begins-plain, counts-none, plain-unjournaled}
+use Rattle.rz_replay.proofs.Beginnings.{IsPlain, begins-plain, plain-unjournaled}
 use Rattle.rz_replay.proofs.drivers.driver_for.Goals as goal
 
 pub returns-in-Ok-clause-made : goal.returns-in-Ok-clause-made
@@ -59,7 +59,7 @@ returns-in-Ok-new g c =
         ready = e.ready;
         volume = e.volume ∙ volume;
         journal = e.journal ∙ sym (plain-unjournaled wish plain);
-        counted = counts-none d e.ready e.journal (faults_at g.D.Disk.meter disks (length (nodes_of c.args.request.now.script.volume.clusters)));
+        counted = e.counted (faults_at g.D.Disk.meter disks (length (nodes_of c.args.request.now.script.volume.clusters)));
         begins = begins-plain c.args.request.now.script.volume disks d wish plain (e.world ∙ ap new_world volume, e.held);
       };
       unmade = tt;

@@ -17,6 +17,7 @@ use Rattle.rz_driver_nodes.proofs.MeterLemmas.{new-holds}
 use Rattle.rz_driver.proofs.MadeLemmas.{as-many, new-ready, new-is}
 use Rattle.rz_driver_nodes.specs.Meters.{faults_at}
 use Rattle.rz_driver_nodes.specs.Servers.{IsServer}
+use Rattle.rz_driver.proofs.Cuts.{counts-none}
 use Rattle.rz_driver.proofs.NewCoherence.{new-coherence}
 use Rattle.rz_driver.proofs.driver.Driver.new.Goals as goal
 
@@ -76,6 +77,9 @@ returns-in-Ok-format_all-clause-held g c =
       }),
       record { short = omega arith },
     )
+
+pub returns-in-Ok-format_all-clause-counted : goal.returns-in-Ok-format_all-clause-counted
+returns-in-Ok-format_all-clause-counted g c = counts-none _ (returns-in-Ok-format_all-clause-ready g c) c.in-Ok-new_export.ensures.journal
 
 -- there is room for the disks of the nodes, and for one more
 pub invariant_of-result : goal.invariant_of-result

@@ -1,4 +1,4 @@
-use Rattle.std.proofs.Common.{◌≡◌, ◌+◌, ◌<◌, inl, inr, List, ◌++◌, refl, sym, ◌∙◌, ap, subst}
+use Rattle.std.proofs.Common.{◌+◌, ◌<◌, inl, inr, List, ◌++◌, refl, sym, ◌∙◌, ap, subst}
 use Rattle.rz_events.specs.declared.events.Event.{Event}
 use Rattle.rz_play.specs.Stops.{most_turns}
 use Rattle.rz_driver.specs.declared.driver.Driver.{Driver}

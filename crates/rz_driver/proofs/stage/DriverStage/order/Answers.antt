@@ -1,211 +1,205 @@
+use Rattle.std.proofs.Common.{IsTrue, refl}
+use Rattle.std.specs.Vec.{with_items}
+use Rattle.std.proofs.lemmas.Result.{on_ok_weaker}
+use Rattle.rz_events.specs.declared.nodes.NodeAsk.TheVariants as ask
+use Rattle.rz_play.specs.Lines.{with_miss, with_operation}
+use Rattle.rz_driver_nodes.proofs.CoherenceLemmas.{both-ok, three-ok, three-err, on-err}
+use Rattle.rz_driver.specs.Orders.{IsActorOrdered}
+use Rattle.rz_driver_nodes.specs.Administration.{IsOrderNoted, IsStarted, IsCalledAt, IsArming}
+use Rattle.rz_block_laws.proofs.Starts.{takes}
+use Rattle.rz_driver.specs.Worlds.{world, world_of}
+use Rattle.rz_driver.proofs.NodeOrders.{called-of, ordered-in, started-in, called-in, arming-in, called-ready, armed-ready, admin-call, free-start, start-over, armed-world}
+use Rattle.rz_driver.proofs.OrderLemmas.{actor-ready, actor-played, all-more}
+use Rattle.rz_driver.proofs.LineOrders.{actor-holds, actor-left, node-holds, node-left}
 use Rattle.rz_driver.proofs.stage.DriverStage.order.Goals as goal
 
 -- Op
 
-pub add_operation-requires-clause-ready : goal.add_operation-requires-clause-ready
-add_operation-requires-clause-ready g c = c.requires.ready
-
-pub add_operation-requires-clause-line : goal.add_operation-requires-clause-line
-add_operation-requires-clause-line g c = rw c.in-Op.is at c.requires.line
-
-pub returns-in-Op-clause-volume : goal.returns-in-Op-clause-volume
-returns-in-Op-clause-volume g c = c.add_operation.ensures.volume
-
-pub returns-in-Op-clause-journal : goal.returns-in-Op-clause-journal
-returns-in-Op-clause-journal g c = c.add_operation.ensures.journal
-
-pub returns-in-Op-clause-faults : goal.returns-in-Op-clause-faults
-returns-in-Op-clause-faults g c = c.add_operation.ensures.faults
-
 pub returns-in-Op-clause-ready : goal.returns-in-Op-clause-ready
-returns-in-Op-clause-ready g c = c.add_operation.ensures.ready
-
-pub returns-in-Op-clause-lost : goal.returns-in-Op-clause-lost
-returns-in-Op-clause-lost g c = c.add_operation.ensures.lost
-
-pub returns-in-Op-clause-log : goal.returns-in-Op-clause-log
-returns-in-Op-clause-log g c = c.add_operation.ensures.log
-
-pub returns-in-Op-clause-held : goal.returns-in-Op-clause-held
-returns-in-Op-clause-held g c = c.add_operation.ensures.held
-
-pub returns-in-Op-clause-left : goal.returns-in-Op-clause-left
-returns-in-Op-clause-left g c = c.add_operation.ensures.left
+returns-in-Op-clause-ready g c =
+    let d = c.args.self.now in
+    on_ok_weaker c.add_operation.result
+    (λ (o : IsActorOrdered c.in-Op.by (λ s. with_operation s c.in-Op.op) c.as_mut_slice.result.now c.add_operation.new.agendas).
+    actor-ready d c.requires.ready c.as_mut_slice.result.now c.add_operation.new.agendas c.as_mut_slice.ensures.value c.in-Op.by (λ s. with_operation s c.in-Op.op) o _ refl refl refl (λ all. all-more d.volume.layout o.agenda.todo.items c.in-Op.op all (takes d.volume c.in-Op.by c.in-Op.op (rw c.in-Op.is at c.requires.line).1)))
+    c.add_operation.ensures
 
 pub returns-in-Op-clause-played : goal.returns-in-Op-clause-played
-returns-in-Op-clause-played g c = rw c.in-Op.is c.add_operation.ensures.played
+returns-in-Op-clause-played g c =
+    let d = c.args.self.now in
+    rw c.in-Op.is (on_ok_weaker c.add_operation.result
+    (λ (o : IsActorOrdered c.in-Op.by (λ s. with_operation s c.in-Op.op) c.as_mut_slice.result.now c.add_operation.new.agendas).
+    actor-played d c.requires.ready c.as_mut_slice.result.now c.add_operation.new.agendas c.as_mut_slice.ensures.value c.in-Op.by (λ s. with_operation s c.in-Op.op) o)
+    c.add_operation.ensures)
+
+pub returns-in-Op-clause-held : goal.returns-in-Op-clause-held
+returns-in-Op-clause-held g c =
+    both-ok c.add_operation.result
+    (actor-holds c.lined.ensures c.untold.ensures c.lasting.ensures c.args.self.now c.args.line.now c.requires.order c.requires.line c.requires.ready c.as_mut_slice.result.now c.add_operation.new.agendas c.as_mut_slice.ensures.value _ refl refl refl)
+    c.add_operation.ensures (returns-in-Op-clause-played g c)
+
+pub returns-in-Op-clause-left : goal.returns-in-Op-clause-left
+returns-in-Op-clause-left g c = on-err c.add_operation.result (actor-left c.args.self.now c.requires.ready _ refl _ refl)
 
 -- Miss
 
-pub plan_miss-requires-clause-ready : goal.plan_miss-requires-clause-ready
-plan_miss-requires-clause-ready g c = c.requires.ready
-
-pub plan_miss-requires-clause-line : goal.plan_miss-requires-clause-line
-plan_miss-requires-clause-line g c = rw c.in-Miss.is at c.requires.line
-
-pub returns-in-Miss-clause-volume : goal.returns-in-Miss-clause-volume
-returns-in-Miss-clause-volume g c = c.plan_miss.ensures.volume
-
-pub returns-in-Miss-clause-journal : goal.returns-in-Miss-clause-journal
-returns-in-Miss-clause-journal g c = c.plan_miss.ensures.journal
-
-pub returns-in-Miss-clause-faults : goal.returns-in-Miss-clause-faults
-returns-in-Miss-clause-faults g c = c.plan_miss.ensures.faults
-
 pub returns-in-Miss-clause-ready : goal.returns-in-Miss-clause-ready
-returns-in-Miss-clause-ready g c = c.plan_miss.ensures.ready
-
-pub returns-in-Miss-clause-lost : goal.returns-in-Miss-clause-lost
-returns-in-Miss-clause-lost g c = c.plan_miss.ensures.lost
-
-pub returns-in-Miss-clause-log : goal.returns-in-Miss-clause-log
-returns-in-Miss-clause-log g c = c.plan_miss.ensures.log
-
-pub returns-in-Miss-clause-held : goal.returns-in-Miss-clause-held
-returns-in-Miss-clause-held g c = c.plan_miss.ensures.held
-
-pub returns-in-Miss-clause-left : goal.returns-in-Miss-clause-left
-returns-in-Miss-clause-left g c = c.plan_miss.ensures.left
+returns-in-Miss-clause-ready g c =
+    let d = c.args.self.now in
+    on_ok_weaker c.plan_miss.result
+    (λ (o : IsActorOrdered c.in-Miss.by (λ s. with_miss s c.in-Miss.reply) c.as_mut_slice-in-Miss.result.now c.plan_miss.new.agendas).
+    actor-ready d c.requires.ready c.as_mut_slice-in-Miss.result.now c.plan_miss.new.agendas c.as_mut_slice-in-Miss.ensures.value c.in-Miss.by (λ s. with_miss s c.in-Miss.reply) o _ refl refl refl (λ all. all))
+    c.plan_miss.ensures
 
 pub returns-in-Miss-clause-played : goal.returns-in-Miss-clause-played
-returns-in-Miss-clause-played g c = rw c.in-Miss.is c.plan_miss.ensures.played
+returns-in-Miss-clause-played g c =
+    let d = c.args.self.now in
+    rw c.in-Miss.is (on_ok_weaker c.plan_miss.result
+    (λ (o : IsActorOrdered c.in-Miss.by (λ s. with_miss s c.in-Miss.reply) c.as_mut_slice-in-Miss.result.now c.plan_miss.new.agendas).
+    actor-played d c.requires.ready c.as_mut_slice-in-Miss.result.now c.plan_miss.new.agendas c.as_mut_slice-in-Miss.ensures.value c.in-Miss.by (λ s. with_miss s c.in-Miss.reply) o)
+    c.plan_miss.ensures)
+
+pub returns-in-Miss-clause-held : goal.returns-in-Miss-clause-held
+returns-in-Miss-clause-held g c =
+    both-ok c.plan_miss.result
+    (actor-holds c.lined.ensures c.untold.ensures c.lasting.ensures c.args.self.now c.args.line.now c.requires.order c.requires.line c.requires.ready c.as_mut_slice-in-Miss.result.now c.plan_miss.new.agendas c.as_mut_slice-in-Miss.ensures.value _ refl refl refl)
+    c.plan_miss.ensures (returns-in-Miss-clause-played g c)
+
+pub returns-in-Miss-clause-left : goal.returns-in-Miss-clause-left
+returns-in-Miss-clause-left g c = on-err c.plan_miss.result (actor-left c.args.self.now c.requires.ready _ refl _ refl)
 
 -- Stop
 
-pub order_stop-requires-clause-ready : goal.order_stop-requires-clause-ready
-order_stop-requires-clause-ready g c = c.requires.ready
-
-pub order_stop-requires-clause-line : goal.order_stop-requires-clause-line
-order_stop-requires-clause-line g c = rw c.in-Stop.is at c.requires.line
-
-pub returns-in-Stop-clause-volume : goal.returns-in-Stop-clause-volume
-returns-in-Stop-clause-volume g c = c.order_stop.ensures.volume
-
-pub returns-in-Stop-clause-journal : goal.returns-in-Stop-clause-journal
-returns-in-Stop-clause-journal g c = c.order_stop.ensures.journal
-
-pub returns-in-Stop-clause-faults : goal.returns-in-Stop-clause-faults
-returns-in-Stop-clause-faults g c = c.order_stop.ensures.faults
-
 pub returns-in-Stop-clause-ready : goal.returns-in-Stop-clause-ready
-returns-in-Stop-clause-ready g c = c.order_stop.ensures.ready
-
-pub returns-in-Stop-clause-lost : goal.returns-in-Stop-clause-lost
-returns-in-Stop-clause-lost g c = c.order_stop.ensures.lost
-
-pub returns-in-Stop-clause-log : goal.returns-in-Stop-clause-log
-returns-in-Stop-clause-log g c = c.order_stop.ensures.log
-
-pub returns-in-Stop-clause-held : goal.returns-in-Stop-clause-held
-returns-in-Stop-clause-held g c = c.order_stop.ensures.held
-
-pub returns-in-Stop-clause-left : goal.returns-in-Stop-clause-left
-returns-in-Stop-clause-left g c = c.order_stop.ensures.left
+returns-in-Stop-clause-ready g c =
+    let d = c.args.self.now in
+    let new = c.order_node.new in
+    on_ok_weaker c.order_node.result
+    (λ (o : IsOrderNoted ask.Stop c.in-Stop.node c.as_mut_slice-in-Stop.result.now new.servers d.shared.log.events new.log.events).
+    called-ready d _ c.requires.ready refl refl c.in-Stop.node (called-in c.in-Stop.node d.shared.servers c.as_mut_slice-in-Stop.result.now new.servers c.as_mut_slice-in-Stop.ensures.value (called-of ask.Stop c.in-Stop.node _ _ _ _ o)) refl refl refl)
+    c.order_node.ensures.ok
 
 pub returns-in-Stop-clause-played : goal.returns-in-Stop-clause-played
-returns-in-Stop-clause-played g c = rw c.in-Stop.is c.order_stop.ensures.played
+returns-in-Stop-clause-played g c =
+    let d = c.args.self.now in
+    let new = c.order_node.new in
+    let q = record d.shared { servers = with_items d.shared.servers new.servers; log = new.log } in
+    rw c.in-Stop.is (on_ok_weaker c.order_node.result
+    (λ (o : IsOrderNoted ask.Stop c.in-Stop.node c.as_mut_slice-in-Stop.result.now new.servers d.shared.log.events new.log.events).
+    admin-call d c.requires.ready q refl refl ask.Stop c.in-Stop.node (ordered-in ask.Stop c.in-Stop.node d.shared.servers c.as_mut_slice-in-Stop.result.now new.servers d.shared.log.events new.log.events c.as_mut_slice-in-Stop.ensures.value o))
+    c.order_node.ensures.ok)
 
--- Start
+pub returns-in-Stop-clause-held : goal.returns-in-Stop-clause-held
+returns-in-Stop-clause-held g c =
+    three-ok c.order_node.result
+    (node-holds c.lined.ensures c.untold.ensures c.lasting.ensures c.args.self.now c.args.line.now c.requires.order c.requires.line c.as_mut_slice-in-Stop.result.now c.order_node.new.servers c.as_mut_slice-in-Stop.ensures.value _ refl refl refl refl)
+    c.order_node.ensures.held c.order_node.ensures.coherent (returns-in-Stop-clause-played g c)
 
-pub order_start-requires-clause-ready : goal.order_start-requires-clause-ready
-order_start-requires-clause-ready g c = c.requires.ready
-
-pub order_start-requires-clause-line : goal.order_start-requires-clause-line
-order_start-requires-clause-line g c = rw c.in-Start.is at c.requires.line
-
-pub returns-in-Start-clause-volume : goal.returns-in-Start-clause-volume
-returns-in-Start-clause-volume g c = c.order_start.ensures.volume
-
-pub returns-in-Start-clause-journal : goal.returns-in-Start-clause-journal
-returns-in-Start-clause-journal g c = c.order_start.ensures.journal
-
-pub returns-in-Start-clause-faults : goal.returns-in-Start-clause-faults
-returns-in-Start-clause-faults g c = c.order_start.ensures.faults
-
-pub returns-in-Start-clause-ready : goal.returns-in-Start-clause-ready
-returns-in-Start-clause-ready g c = c.order_start.ensures.ready
-
-pub returns-in-Start-clause-lost : goal.returns-in-Start-clause-lost
-returns-in-Start-clause-lost g c = c.order_start.ensures.lost
-
-pub returns-in-Start-clause-log : goal.returns-in-Start-clause-log
-returns-in-Start-clause-log g c = c.order_start.ensures.log
-
-pub returns-in-Start-clause-held : goal.returns-in-Start-clause-held
-returns-in-Start-clause-held g c = c.order_start.ensures.held
-
-pub returns-in-Start-clause-left : goal.returns-in-Start-clause-left
-returns-in-Start-clause-left g c = c.order_start.ensures.left
-
-pub returns-in-Start-clause-played : goal.returns-in-Start-clause-played
-returns-in-Start-clause-played g c = rw c.in-Start.is c.order_start.ensures.played
+pub returns-in-Stop-clause-left : goal.returns-in-Stop-clause-left
+returns-in-Stop-clause-left g c =
+    three-err c.order_node.result
+    (node-left c.args.self.now c.requires.ready _ refl _ c.as_mut_slice-in-Stop.result.now c.order_node.new.servers c.as_mut_slice-in-Stop.ensures.value refl refl)
+    c.order_node.ensures.left c.order_node.ensures.unchanged c.order_node.ensures.err
 
 -- Lose
 
-pub order_loss-requires-clause-ready : goal.order_loss-requires-clause-ready
-order_loss-requires-clause-ready g c = c.requires.ready
-
-pub order_loss-requires-clause-line : goal.order_loss-requires-clause-line
-order_loss-requires-clause-line g c = rw c.in-Lose.is at c.requires.line
-
-pub returns-in-Lose-clause-volume : goal.returns-in-Lose-clause-volume
-returns-in-Lose-clause-volume g c = c.order_loss.ensures.volume
-
-pub returns-in-Lose-clause-journal : goal.returns-in-Lose-clause-journal
-returns-in-Lose-clause-journal g c = c.order_loss.ensures.journal
-
-pub returns-in-Lose-clause-faults : goal.returns-in-Lose-clause-faults
-returns-in-Lose-clause-faults g c = c.order_loss.ensures.faults
-
 pub returns-in-Lose-clause-ready : goal.returns-in-Lose-clause-ready
-returns-in-Lose-clause-ready g c = c.order_loss.ensures.ready
-
-pub returns-in-Lose-clause-lost : goal.returns-in-Lose-clause-lost
-returns-in-Lose-clause-lost g c = c.order_loss.ensures.lost
-
-pub returns-in-Lose-clause-log : goal.returns-in-Lose-clause-log
-returns-in-Lose-clause-log g c = c.order_loss.ensures.log
-
-pub returns-in-Lose-clause-held : goal.returns-in-Lose-clause-held
-returns-in-Lose-clause-held g c = c.order_loss.ensures.held
-
-pub returns-in-Lose-clause-left : goal.returns-in-Lose-clause-left
-returns-in-Lose-clause-left g c = c.order_loss.ensures.left
+returns-in-Lose-clause-ready g c =
+    let d = c.args.self.now in
+    let new = c.order_node-in-Lose.new in
+    on_ok_weaker c.order_node-in-Lose.result
+    (λ (o : IsOrderNoted ask.Lose c.in-Lose.node c.as_mut_slice-in-Lose.result.now new.servers d.shared.log.events new.log.events).
+    called-ready d _ c.requires.ready refl refl c.in-Lose.node (called-in c.in-Lose.node d.shared.servers c.as_mut_slice-in-Lose.result.now new.servers c.as_mut_slice-in-Lose.ensures.value (called-of ask.Lose c.in-Lose.node _ _ _ _ o)) refl refl refl)
+    c.order_node-in-Lose.ensures.ok
 
 pub returns-in-Lose-clause-played : goal.returns-in-Lose-clause-played
-returns-in-Lose-clause-played g c = rw c.in-Lose.is c.order_loss.ensures.played
+returns-in-Lose-clause-played g c =
+    let d = c.args.self.now in
+    let new = c.order_node-in-Lose.new in
+    let q = record d.shared { servers = with_items d.shared.servers new.servers; log = new.log } in
+    rw c.in-Lose.is (on_ok_weaker c.order_node-in-Lose.result
+    (λ (o : IsOrderNoted ask.Lose c.in-Lose.node c.as_mut_slice-in-Lose.result.now new.servers d.shared.log.events new.log.events).
+    admin-call d c.requires.ready q refl refl ask.Lose c.in-Lose.node (ordered-in ask.Lose c.in-Lose.node d.shared.servers c.as_mut_slice-in-Lose.result.now new.servers d.shared.log.events new.log.events c.as_mut_slice-in-Lose.ensures.value o))
+    c.order_node-in-Lose.ensures.ok)
+
+pub returns-in-Lose-clause-held : goal.returns-in-Lose-clause-held
+returns-in-Lose-clause-held g c =
+    three-ok c.order_node-in-Lose.result
+    (node-holds c.lined.ensures c.untold.ensures c.lasting.ensures c.args.self.now c.args.line.now c.requires.order c.requires.line c.as_mut_slice-in-Lose.result.now c.order_node-in-Lose.new.servers c.as_mut_slice-in-Lose.ensures.value _ refl refl refl refl)
+    c.order_node-in-Lose.ensures.held c.order_node-in-Lose.ensures.coherent (returns-in-Lose-clause-played g c)
+
+pub returns-in-Lose-clause-left : goal.returns-in-Lose-clause-left
+returns-in-Lose-clause-left g c =
+    three-err c.order_node-in-Lose.result
+    (node-left c.args.self.now c.requires.ready _ refl _ c.as_mut_slice-in-Lose.result.now c.order_node-in-Lose.new.servers c.as_mut_slice-in-Lose.ensures.value refl refl)
+    c.order_node-in-Lose.ensures.left c.order_node-in-Lose.ensures.unchanged c.order_node-in-Lose.ensures.err
+
+-- Start
+
+pub returns-in-Start-clause-ready : goal.returns-in-Start-clause-ready
+returns-in-Start-clause-ready g c =
+    let d = c.args.self.now in
+    on_ok_weaker c.start_node.result
+    (λ (k : IsCalledAt c.in-Start.node c.as_mut_slice-in-Start.result.now c.start_node.new.servers).
+    called-ready d _ c.requires.ready refl refl c.in-Start.node (called-in c.in-Start.node d.shared.servers c.as_mut_slice-in-Start.result.now c.start_node.new.servers c.as_mut_slice-in-Start.ensures.value k) refl refl refl)
+    c.start_node.ensures.called
+
+pub returns-in-Start-clause-played : goal.returns-in-Start-clause-played
+returns-in-Start-clause-played g c =
+    let d = c.args.self.now in
+    let n = c.in-Start.node in
+    let xs = c.as_mut_slice-in-Start.result.now in
+    let new = c.start_node.new in
+    let q = record d.shared { servers = with_items d.shared.servers new.servers; log = new.log } in
+    rw c.in-Start.is (both-ok c.start_node.result
+    (λ (o : IsTrue g.D.Disk.tells → IsOrderNoted ask.Start n xs new.servers d.shared.log.events new.log.events). λ (free : IsStarted n xs new.servers d.shared.log.events new.log.events).
+    start-over d.volume n g.D.Disk.tells (world_of d) (world q d.agendas.items d.turns)
+    (λ told. admin-call d c.requires.ready q refl refl ask.Start n (ordered-in ask.Start n d.shared.servers xs new.servers d.shared.log.events new.log.events c.as_mut_slice-in-Start.ensures.value (o told)))
+    (free-start d c.requires.ready q refl refl n (started-in n d.shared.servers xs new.servers d.shared.log.events new.log.events c.as_mut_slice-in-Start.ensures.value free)))
+    c.start_node.ensures.ok c.start_node.ensures.started)
+
+pub returns-in-Start-clause-held : goal.returns-in-Start-clause-held
+returns-in-Start-clause-held g c =
+    three-ok c.start_node.result
+    (node-holds c.lined.ensures c.untold.ensures c.lasting.ensures c.args.self.now c.args.line.now c.requires.order c.requires.line c.as_mut_slice-in-Start.result.now c.start_node.new.servers c.as_mut_slice-in-Start.ensures.value _ refl refl refl refl)
+    c.start_node.ensures.held c.start_node.ensures.coherent (returns-in-Start-clause-played g c)
+
+pub returns-in-Start-clause-left : goal.returns-in-Start-clause-left
+returns-in-Start-clause-left g c =
+    three-err c.start_node.result
+    (node-left c.args.self.now c.requires.ready _ refl _ c.as_mut_slice-in-Start.result.now c.start_node.new.servers c.as_mut_slice-in-Start.ensures.value refl refl)
+    c.start_node.ensures.left c.start_node.ensures.unchanged c.start_node.ensures.err
 
 -- Break
 
-pub arm-requires-clause-ready : goal.arm-requires-clause-ready
-arm-requires-clause-ready g c = c.requires.ready
-
-pub arm-requires-clause-line : goal.arm-requires-clause-line
-arm-requires-clause-line g c = rw c.in-Break.is at c.requires.line
-
-pub returns-in-Break-clause-volume : goal.returns-in-Break-clause-volume
-returns-in-Break-clause-volume g c = c.arm.ensures.volume
-
-pub returns-in-Break-clause-journal : goal.returns-in-Break-clause-journal
-returns-in-Break-clause-journal g c = c.arm.ensures.journal
-
-pub returns-in-Break-clause-faults : goal.returns-in-Break-clause-faults
-returns-in-Break-clause-faults g c = c.arm.ensures.faults
-
 pub returns-in-Break-clause-ready : goal.returns-in-Break-clause-ready
-returns-in-Break-clause-ready g c = c.arm.ensures.ready
-
-pub returns-in-Break-clause-lost : goal.returns-in-Break-clause-lost
-returns-in-Break-clause-lost g c = c.arm.ensures.lost
-
-pub returns-in-Break-clause-log : goal.returns-in-Break-clause-log
-returns-in-Break-clause-log g c = c.arm.ensures.log
-
-pub returns-in-Break-clause-held : goal.returns-in-Break-clause-held
-returns-in-Break-clause-held g c = c.arm.ensures.held
-
-pub returns-in-Break-clause-left : goal.returns-in-Break-clause-left
-returns-in-Break-clause-left g c = c.arm.ensures.left
+returns-in-Break-clause-ready g c =
+    let d = c.args.self.now in
+    let b = c.in-Break in
+    let new = c.arm_node.new in
+    on_ok_weaker c.arm_node.result
+    (λ (a : IsArming b.k b.pick b.node c.as_mut_slice-in-Break.result.now new.servers d.shared.log.events new.log.events).
+    armed-ready d _ c.requires.ready refl refl b.k b.pick b.node (arming-in b.k b.pick b.node d.shared.servers c.as_mut_slice-in-Break.result.now new.servers d.shared.log.events new.log.events c.as_mut_slice-in-Break.ensures.value a) refl refl refl)
+    c.arm_node.ensures.ok
 
 pub returns-in-Break-clause-played : goal.returns-in-Break-clause-played
-returns-in-Break-clause-played g c = rw c.in-Break.is c.arm.ensures.played
+returns-in-Break-clause-played g c =
+    let d = c.args.self.now in
+    let b = c.in-Break in
+    let new = c.arm_node.new in
+    let q = record d.shared { servers = with_items d.shared.servers new.servers; log = new.log } in
+    rw c.in-Break.is (on_ok_weaker c.arm_node.result
+    (λ (a : IsArming b.k b.pick b.node c.as_mut_slice-in-Break.result.now new.servers d.shared.log.events new.log.events).
+    armed-world d c.requires.ready q refl refl b.k b.pick b.node (arming-in b.k b.pick b.node d.shared.servers c.as_mut_slice-in-Break.result.now new.servers d.shared.log.events new.log.events c.as_mut_slice-in-Break.ensures.value a))
+    c.arm_node.ensures.ok)
+
+pub returns-in-Break-clause-held : goal.returns-in-Break-clause-held
+returns-in-Break-clause-held g c =
+    three-ok c.arm_node.result
+    (node-holds c.lined.ensures c.untold.ensures c.lasting.ensures c.args.self.now c.args.line.now c.requires.order c.requires.line c.as_mut_slice-in-Break.result.now c.arm_node.new.servers c.as_mut_slice-in-Break.ensures.value _ refl refl refl refl)
+    c.arm_node.ensures.held c.arm_node.ensures.coherent (returns-in-Break-clause-played g c)
+
+pub returns-in-Break-clause-left : goal.returns-in-Break-clause-left
+returns-in-Break-clause-left g c =
+    three-err c.arm_node.result
+    (node-left c.args.self.now c.requires.ready _ refl _ c.as_mut_slice-in-Break.result.now c.arm_node.new.servers c.as_mut_slice-in-Break.ensures.value refl refl)
+    c.arm_node.ensures.left c.arm_node.ensures.unchanged c.arm_node.ensures.err
