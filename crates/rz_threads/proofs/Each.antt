@@ -1,4 +1,4 @@
--- What is so at each place of two lists is so of both, and what is so of a list is so at each of its places and of its parts.
+-- What is so at each place of two lists is so of both, and what is so of a list is so at each of its places.
 use Rattle.std.proofs.Common.{ℕ, ◌≡◌, ◌<◌, ◌++◌, length, List, [], ◌∷◌, slice_index_or, zero, suc, arith}
 use Rattle.std.specs.List.{AllByRecursion, AllZip}
 
@@ -18,7 +18,3 @@ zip-both R [] [] ys ys' front back = back
 zip-both R [] (x' ∷ xs') ys ys' front back = absurd front
 zip-both R (x ∷ xs) [] ys ys' front back = absurd front
 zip-both R (x ∷ xs) (x' ∷ xs') ys ys' front back = (front.0, zip-both R xs xs' ys ys' front.1 back)
-
-pub both-parts : {X : Type 0} (P : X → Type 0) (xs ys : List X) → AllByRecursion P (xs ++ ys) → AllByRecursion P xs × AllByRecursion P ys
-both-parts P [] ys all = (tt, all)
-both-parts P (x ∷ xs) ys all = let rest = both-parts P xs ys all.1 in ((all.0, rest.0), rest.1)
