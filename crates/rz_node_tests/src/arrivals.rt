@@ -10,7 +10,7 @@ use std::test::Fail;
 /// What is told of a disk: whether it is here, away or stale, and whether a fault is told that says that it
 /// was never formatted.
 #[derive(Clone, Copy, Debug, PartialEq, Eq, Drop)]
-enum Told {
+enum Outcome {
     Here,
     Absent,
     Stale,
@@ -18,30 +18,30 @@ enum Told {
     Other,
 }
 
-fn told(arrival: Arrival<PlainDisk>) -> Told {
+fn outcome_of(arrival: Arrival<PlainDisk>) -> Outcome {
     match arrival {
         Arrival::Here(server) => {
             drop(server);
-            Told::Here
+            Outcome::Here
         }
-        Arrival::Away(Missing::Absent) => Told::Absent,
+        Arrival::Away(Missing::Absent) => Outcome::Absent,
         Arrival::Away(Missing::Stale(disk)) => {
             drop(disk);
-            Told::Stale
+            Outcome::Stale
         }
         Arrival::Away(Missing::Unopened(disk, fault)) => {
             drop(disk);
             if fault == OpenFault::Unformatted {
-                Told::Unformatted
+                Outcome::Unformatted
             } else {
-                Told::Other
+                Outcome::Other
             }
         }
     }
 }
 
 /// What comes of a disk in the place of node 1, whose export knows this fence.
-fn arrived(rt: &(impl Abort + AllocGlobal), fence: u64, disk: Option<PlainDisk>) -> Told {
+fn arrived(rt: &(impl Abort + AllocGlobal), fence: u64, disk: Option<PlainDisk>) -> Outcome {
     let known = KnownNode {
         node: NodeSpec { sid: 1, cells: 1 },
         losses: 0,
@@ -54,7 +54,7 @@ fn arrived(rt: &(impl Abort + AllocGlobal), fence: u64, disk: Option<PlainDisk>)
             let first = arrivals.pop();
             drop(arrivals);
             match first {
-                Some(arrival) => told(arrival),
+                Some(arrival) => outcome_of(arrival),
                 None => rt.panic("nothing came"),
             }
         }
@@ -80,8 +80,8 @@ fn a_disk_is_here_absent_or_unformatted(rt: HostRuntime) -> Result<(), Fail> {
     blank.reset(rt.alloc(), 8514).expect(&rt, "memory");
     let unformatted = arrived(&rt, 0, Some(blank));
     let empty = arrived(&rt, 0, Some(PlainDisk::new(rt.alloc())));
-    assert!(rt; here == Told::Here && absent == Told::Absent);
-    assert!(rt; unformatted == Told::Unformatted && empty == Told::Other);
+    assert!(rt; here == Outcome::Here && absent == Outcome::Absent);
+    assert!(rt; unformatted == Outcome::Unformatted && empty == Outcome::Other);
     Ok(())
 }
 
@@ -91,7 +91,7 @@ fn a_disk_from_before_a_loss_is_stale(rt: HostRuntime) -> Result<(), Fail> {
     let stale = arrived(&rt, 7, Some(lost));
     let here = arrived(&rt, 7, Some(replaced(&rt)));
     let newer = arrived(&rt, 6, Some(replaced(&rt)));
-    assert!(rt; stale == Told::Stale && here == Told::Here);
-    assert!(rt; newer == Told::Stale);
+    assert!(rt; stale == Outcome::Stale && here == Outcome::Here);
+    assert!(rt; newer == Outcome::Stale);
     Ok(())
 }
