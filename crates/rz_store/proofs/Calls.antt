@@ -32,6 +32,7 @@ use Rattle.rz_chronicle.specs.Kinds.{keeps_legal, volume_in}
 use Rattle.rz_contents.specs.Model.{Model, model_of, export_at, IsSame, StaysStill}
 use Rattle.rz_contents.specs.Files.{is_word, opens_file, Refuses, IsCalled, answer_for, IsCallSeen, IsCallWatched}
 use Rattle.rz_chronicle.specs.Rules.{PassView}
+use Rattle.rz_store_turns.specs.declared.sole.Stop.{Stop}
 use Rattle.rz_store_turns.specs.Sole.{SoleView, IsInHand}
 use Rattle.rz_store_turns.specs.Performed.{HasCome, IsQuiet}
 use Rattle.rz_store.specs.declared.faults.NameFault.{NameFault}
@@ -41,7 +42,7 @@ use Rattle.rz_store.specs.Store.{StoreView, LooksSame}
 use Rattle.rz_store.proofs.Looks.{same-then}
 use Rattle.rz_store.proofs.Wholes.{view, whole, come-log, come-legal, quiet-same}
 use Rattle.rz_store.proofs.Replies.{HasReplied, Refused, Answered, replied, refused-same, asks-same, IsChangeAnswer, changing, IsAskAnswer, asking, made-created, made-plain}
-use Rattle.rz_store.specs.Names.{Replies, made_by, HasChanged, change_told, HasAsked, answer_told, ask_told, IsAskTold, asks_export}
+use Rattle.rz_store.specs.Names.{Replies, made_by, HasChanged, change_told, HasAsked, answer_told, ask_told, IsAskTold, stopped_told}
 
 module _ (v : Volume) (before after : List Event) (q : TreeCall) where
   abbrev s : ExportState
@@ -86,15 +87,11 @@ module _ (v : Volume) (before after : List Event) (q : TreeCall) where
   changed changes (_) seen word = absurd seen
 
   -- where it was stopped
-  abbrev pub ChangeStopped : Bool → Type 0
-  ChangeStopped true = IsSame (model_of v before) (model_of v after)
-  ChangeStopped false = HasChanged old q None new
-
-  change-stopped : (work : Work) → IsCallSeen v before q after work → is_word (ask_of v.layout work) ≡ false → ChangeStopped (asks_export (ask_of v.layout work))
-  change-stopped (Calling asked) seen quiet = seen
-  change-stopped (Dropping fid n places) seen quiet = (seen.0, seen.1, made-plain seen.0 seen.2)
-  change-stopped (Ending a) seen quiet = cc
-  change-stopped (_) seen quiet = absurd seen
+  change-stopped : (why : Stop) (work : Work) → IsCallSeen v before q after work → is_word (ask_of v.layout work) ≡ false → ChangeTells (stopped_told why (ask_of v.layout work))
+  change-stopped why (Calling asked) seen quiet = (seen, tt)
+  change-stopped why (Dropping fid n places) seen quiet = (seen.0, seen.1, made-plain seen.0 seen.2)
+  change-stopped why (Ending a) seen quiet = cc
+  change-stopped why (_) seen quiet = absurd seen
 
   -- Calls that only ask.
 
@@ -194,16 +191,16 @@ module _ (kind : List ℕ) (earlier : List Event) (q : TreeCall) (watched : IsCa
     seen shut = subst (λ (h : List Event). IsCallSeen v o q h m.work) (sym (come-log kind earlier (operation.Tree q) old new m.work come))
         (watched o come.events new.pass.actor new.number q m.work shut (come-legal kind earlier (operation.Tree q) old new m.work come keeps) (come.course keeps))
 
-    pub change-cut : only_asks q ≡ false → is_word (ask_of m.layout m.work) ≡ false → ChangeStopped v o n q (asks_export (ask_of m.layout m.work))
-    change-cut changes quiet =
-        subst (λ (y : Layout). ChangeStopped v o n q (asks_export (ask_of y m.work))) (sym hand.layout)
-        (change-stopped v o n q m.work (seen (shut-of q changes)) (subst (λ (y : Layout). is_word (ask_of y m.work) ≡ false) hand.layout quiet))
+    change-cut : only_asks q ≡ false → is_word (ask_of m.layout m.work) ≡ false → (why : Stop) → ChangeTells v o n q (stopped_told why (ask_of m.layout m.work))
+    change-cut changes quiet why =
+        subst (λ (y : Layout). ChangeTells v o n q (stopped_told why (ask_of y m.work))) (sym hand.layout)
+        (change-stopped v o n q why m.work (seen (shut-of q changes)) (subst (λ (y : Layout). is_word (ask_of y m.work) ≡ false) hand.layout quiet))
 
-    pub change-ended : only_asks q ≡ false → is_word (ask_of m.layout m.work) ≡ false → (last : SoleView) → last.pass ≡ new.pass → (unanswered : Bool) → unanswered ≡ asks_export (ask_of m.layout m.work)
-        → ChangeStopped v o (whole kind earlier last) q unanswered
-    change-ended changes quiet last same unanswered is =
-        subst (ChangeStopped v o (whole kind earlier last) q) (sym is)
-        (subst (λ (p : PassView). ChangeStopped v o (p.log ++ earlier) q (asks_export (ask_of m.layout m.work))) (sym same) (change-cut changes quiet))
+    pub change-ended : only_asks q ≡ false → is_word (ask_of m.layout m.work) ≡ false → (last : SoleView) → last.pass ≡ new.pass → (why : Stop) (told : Result (Option ℕ) NameFault)
+        → told ≡ stopped_told why (ask_of m.layout m.work) → ChangeTells v o (whole kind earlier last) q told
+    change-ended changes quiet last same why told is =
+        subst (ChangeTells v o (whole kind earlier last) q) (sym is)
+        (subst (λ (p : PassView). ChangeTells v o (p.log ++ earlier) q (stopped_told why (ask_of m.layout m.work))) (sym same) (change-cut changes quiet why))
 
     pub change-says : only_asks q ≡ false → StaysStill v → (last : SoleView) → is_word (ask_of m.layout m.work) ≡ true → IsQuiet kind earlier new last
         → ChangeTells v o (whole kind earlier last) q (change_told (ask_of m.layout m.work))

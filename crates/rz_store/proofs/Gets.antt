@@ -180,7 +180,7 @@ module _ (kind : List ℕ) (earlier : List Event) (path : List ℕ) (block : ℕ
     get-same still last quiet = same-then (model_of v (whole kind earlier old)) (model_of v (whole kind earlier new)) (model_of v (whole kind earlier last)) get-came (quiet-same kind earlier still new last quiet keeps)
 
     module _ (word : is_word (ask_of m.layout m.work) ≡ true) (last : SoleView) (said : (saying : Saying) → ask_of m.layout m.work ≡ Say saying → HasSaid kind earlier new last m saying) where
-      pub get-says : LeadsToBlock v → IsGetAlone v → AreGetsCaused v → (told : Result (Option (List ℕ)) ReadFault) → IsGetTold (text_of m) (ask_of m.layout m.work) told
+      pub get-says : LeadsToBlock v → (alone : IsGetAlone v) (caused : AreGetsCaused v) (told : Result (Option (List ℕ)) ReadFault) → IsGetTold (text_of m) (ask_of m.layout m.work) told
           → GetTells v alone caused (whole kind earlier old) come.events by new.number path block (text_of m) told
       get-says leads alone caused told is =
           let o : List Event = whole kind earlier old in

@@ -69,7 +69,7 @@ many-at v f own by key places text writing.Beginning row = tt
 many-at v f own by key places text (writing.Sending t) row = tt
 
 many-in : (v : Volume) (f : Facts) (own run : List Event) (by : Actor) (work : Work) → IsOwnOf v f own run by work → IsManyIn v work
-many-in v f own run by (Writing course written s) is = many-at v f own by s.key s.places written s.stage is.1.0.stage
+many-in v f own run by (Writing course written s) is = many-at v f own by s.key s.places written s.stage is.1.stage
 many-in v f own run by (Reading course s) is = tt
 many-in v f own run by (Calling c) is = tt
 many-in v f own run by (Dropping fid n places) is = tt

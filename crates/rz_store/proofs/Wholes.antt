@@ -79,13 +79,13 @@ before-word o why a is at = subst (λ (p : Option Stop). IsAtWord p a) is at
 
 -- What is so over a book that keeps its log legal is so of what was told.
 
-pub ok-if : {T E A P : Type 0} (r : Result T E) → (A → OnOk r P) → OnOk r (A → P)
-ok-if (Ok x) so = so
-ok-if (Err e) so = tt
+pub ok-if : {T E A : Type 0} (r : Result T E) (P : Type 0) → (A → OnOk r P) → OnOk r (A → P)
+ok-if (Ok x) P so = so
+ok-if (Err e) P so = tt
 
-pub err-if : {T E A P : Type 0} (r : Result T E) → (A → OnErr r P) → OnErr r (A → P)
-err-if (Ok x) so = tt
-err-if (Err e) so = so
+pub err-if : {T E A : Type 0} (r : Result T E) (P : Type 0) → (A → OnErr r P) → OnErr r (A → P)
+err-if (Ok x) P so = tt
+err-if (Err e) P so = so
 
 pub told-if : {T E A : Type 0} (r : Result T E) (P : T → Type 0) → (A → IfOk r P) → IfOk r (λ x. A → P x)
 told-if (Ok x) P so = so

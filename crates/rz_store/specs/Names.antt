@@ -1,5 +1,5 @@
 -- Calls on names, and what a store tells of them.
-use Rattle.std.specs.Prelude.{ℕ, ◌≡◌, ◌⊎◌, Bool, true, false, Option, Some, None, Result, Ok, Err}
+use Rattle.std.specs.Prelude.{ℕ, ◌≡◌, ◌⊎◌, Option, Some, None, Result, Ok, Err}
 use Rattle.rz_events.specs.declared.tree.TreeCall.{TreeCall}
 use Rattle.rz_events.specs.declared.tree.TreeReply.{TreeReply}
 use Rattle.rz_events.specs.declared.tree.TreeReply.TheVariants as reply
@@ -11,6 +11,7 @@ use Rattle.rz_operation_model.specs.Ask.{Ask, AskExport, AskNode, Say, SayDone}
 use Rattle.rz_core.specs.ExportRows.{names_reply}
 use Rattle.rz_contents.specs.Model.{export_at}
 use Rattle.rz_contents.specs.Files.{answer_for}
+use Rattle.rz_store_turns.specs.declared.sole.Stop.{Stop}
 use Rattle.rz_store_turns.specs.declared.sole.Stop.TheVariants as stop
 use Rattle.rz_store.specs.declared.faults.NameFault.{NameFault}
 use Rattle.rz_store.specs.declared.faults.NameFault.TheVariants as fault
@@ -40,10 +41,10 @@ change_told (Say (SayDone (answer.Refused f))) = Err (fault.Names f)
 change_told (AskNode n question) = Ok None
 change_told asked = Err fault.Disturbed
 
--- the call was not replied to
-abbrev pub asks_export : Ask → Bool
-asks_export (AskExport c) = true
-asks_export asked = false
+-- what one tells that was stopped before it said a word: where the call was not replied to, it is not done
+abbrev pub stopped_told : Stop → Ask → Result (Option ℕ) NameFault
+stopped_told why (AskExport c) = Err (fault.Stopped why)
+stopped_told why asked = Ok None
 
 -- Calls that only ask.
 

@@ -12,7 +12,7 @@ ghost use Rattle.rz_log_laws.specs.Changes.{only_asks};
 ghost use Rattle.rz_contents.specs.Files.{opens_file};
 ghost use Rattle.rz_store.specs.Store.{IfLegal, LooksSame, IsCalled};
 ghost use Rattle.rz_store.specs.Causes.{IsNameCause};
-ghost use Rattle.rz_store.specs.Names.{Replies, HasChanged, HasAsked, change_told, asks_export, answer_told, IsAskTold};
+ghost use Rattle.rz_store.specs.Names.{Replies, HasChanged, HasAsked, change_told, stopped_told, answer_told, IsAskTold};
 
 use crate::faults::NameFault;
 use crate::store::Store;
@@ -47,11 +47,14 @@ fn change_told(machine: &Machine) -> Result<Option<u128>, NameFault>
     }
 }
 
-/// Whether a call was not replied to.
-fn is_unanswered(machine: &Machine) -> bool
-    ensures { result ≡ asks_export (ask_of machine.now.layout machine.now.work) }
+/// What a call that changes names tells where it was stopped before it said a word.
+fn stopped_told(machine: &Machine, why: Stop) -> Result<Option<u128>, NameFault>
+    ensures { result ≡ stopped_told why (ask_of machine.now.layout machine.now.work) }
 {
-    matches!(machine.next(), Ask::Export(_))
+    match machine.next() {
+        Ask::Export(_) => Err(NameFault::Stopped(why)),
+        _ => Ok(None),
+    }
 }
 
 /// What a call that only asks tells, in new memory.
@@ -100,13 +103,9 @@ impl<D: Disk, J: Metering> Store<D, J> {
         let performed = self.sole.perform(rt, Operation::Tree(call))?;
         let Performed { machine, stopped } = performed;
         if let Some(why) = stopped {
-            let unanswered = is_unanswered(&machine);
+            let told = stopped_told(&machine, why);
             self.sole.end(machine);
-            return if unanswered {
-                Err(NameFault::Stopped(why))
-            } else {
-                Ok(None)
-            };
+            return told;
         }
         let told = change_told(&machine);
         let _said = self.sole.conclude(rt, machine);

@@ -16,8 +16,10 @@ use Rattle.rz_store.proofs.Wholes.{view, whole, same-log, log-later, come-later,
 use Rattle.rz_store.proofs.Calls.{client-does, ask-cut, ask-kept, ask-says, ask-done, ask-cause}
 use Rattle.rz_store.proofs.store.Store.ask.Goals as goal
 
-pub perform-requires-clause-may : goal.perform-requires-clause-may
-perform-requires-clause-may g c = record { does_it = client-does c.args.call c.requires.names; takes = tt; of_volume = tt }
+pub perform-requires : goal.perform-requires
+perform-requires g c = record {
+  may = record { does_it = client-does c.args.call c.requires.names; takes = tt; of_volume = tt };
+}
 
 -- nothing was done
 
@@ -62,8 +64,8 @@ returns-in-Some-clause-later g c = λ keeps.
 
 -- it said its word
 
-pub conclude-_said-requires-clause-word : goal.conclude-_said-requires-clause-word
-conclude-_said-requires-clause-word g c =
+pub conclude-said-requires-clause-word : goal.conclude-said-requires-clause-word
+conclude-said-requires-clause-word g c =
     let m = c.in_ok-performed.performed.machine in
     at-word c.in_ok-performed.performed.stopped (ask_of m.layout m.work) c.in_default.not-Some c.in_ok-performed.ensures.word
 
@@ -74,7 +76,7 @@ returns-clause-told g c =
     let old = c.self.inside.sole in
     let new = c.perform.new.self in
     let m = c.in_ok-performed.performed.machine in
-    let last = c.conclude-_said.new.self in
+    let last = c.conclude-said.new.self in
     let word = at-word c.in_ok-performed.performed.stopped (ask_of m.layout m.work) c.in_default.not-Some c.in_ok-performed.ensures.word in
     let told = c.ask_told-told.result in
     subst (λ (z : StoreView). IfOk told (λ a. IfLegal K (HasAsked z c.args.call a))) c.self.view_is
@@ -89,9 +91,9 @@ returns-clause-same g c = λ keeps.
     let old = c.self.inside.sole in
     let new = c.perform.new.self in
     let m = c.in_ok-performed.performed.machine in
-    let last = c.conclude-_said.new.self in
+    let last = c.conclude-said.new.self in
     subst (λ (z : StoreView). LooksSame z (view K E last)) c.self.view_is
-    (ask-kept K E c.args.call (c.calls_watched.ensures (volume_in K)) old new m c.in_ok-performed.ensures.came c.in_ok-performed.ensures.hand keeps c.requires.asks c.requires.names (c.still.ensures (volume_in K)) last c.conclude-_said.ensures.quiet))
+    (ask-kept K E c.args.call (c.calls_watched.ensures (volume_in K)) old new m c.in_ok-performed.ensures.came c.in_ok-performed.ensures.hand keeps c.requires.asks c.requires.names (c.still.ensures (volume_in K)) last c.conclude-said.ensures.quiet))
 
 pub returns-clause-cause : goal.returns-clause-cause
 returns-clause-cause g c =
@@ -100,7 +102,7 @@ returns-clause-cause g c =
     let old = c.self.inside.sole in
     let new = c.perform.new.self in
     let m = c.in_ok-performed.performed.machine in
-    let last = c.conclude-_said.new.self in
+    let last = c.conclude-said.new.self in
     let word = at-word c.in_ok-performed.performed.stopped (ask_of m.layout m.work) c.in_default.not-Some c.in_ok-performed.ensures.word in
     let told = c.ask_told-told.result in
     subst (λ (z : StoreView). IfErr told (λ f. IfLegal K (IsNameCause z c.args.call f))) c.self.view_is
@@ -114,7 +116,7 @@ returns-clause-later g c = λ keeps.
     let E = g.J.Naming.earlier in
     let old = c.self.inside.sole in
     let new = c.perform.new.self in
-    let last = c.conclude-_said.new.self in
+    let last = c.conclude-said.new.self in
     subst (λ (z : StoreView). IsLater z.log (whole K E last)) c.self.view_is
     (later-then (whole K E old) (whole K E new) (whole K E last) (come-later K E (operation.Tree c.args.call) old new c.in_ok-performed.performed.machine.work c.in_ok-performed.ensures.came)
-    (quiet-later K E new last c.conclude-_said.ensures.quiet keeps)))
+    (quiet-later K E new last c.conclude-said.ensures.quiet keeps)))

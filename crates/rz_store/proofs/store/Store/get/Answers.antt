@@ -17,24 +17,23 @@ use Rattle.rz_store.proofs.Wholes.{view, whole, same-log, log-later, come-later,
 use Rattle.rz_store.proofs.Gets.{get-came, get-same, get-says, get-done, get-cause}
 use Rattle.rz_store.proofs.store.Store.get.Goals as goal
 
-pub perform-requires-clause-may : goal.perform-requires-clause-may
-perform-requires-clause-may g c =
-    subst (λ (op : Operation). MayDo (volume_in g.J.Naming.kind) (Client 1) op) (sym c.in_ok-op.ensures) (record { does_it = refl; takes = tt; of_volume = tt })
+pub perform-requires : goal.perform-requires
+perform-requires g c = record {
+  may = subst (λ (op : Operation). MayDo (volume_in g.J.Naming.kind) (Client 1) op) (sym c.in_ok-op.ensures) (record { does_it = refl; takes = tt; of_volume = tt });
+}
 
 -- nothing was done
 
 pub returns-in_err-op-clause-same : goal.returns-in_err-op-clause-same
 returns-in_err-op-clause-same g c =
-    let s = view g.J.Naming.kind g.J.Naming.earlier c.self.inside.sole in
-    (λ keeps. subst (λ (z : StoreView). LooksSame z s) c.self.view_is (same-self _))
+    λ keeps. same-self _
 
 pub returns-in_err-op-clause-cause : goal.returns-in_err-op-clause-cause
 returns-in_err-op-clause-cause g c = (let p = err_from_is_err_and c.from_residual.result c.from_residual.ensures.1 in rw (p.1, p.2) (λ keeps. tt))
 
 pub returns-in_err-op-clause-later : goal.returns-in_err-op-clause-later
 returns-in_err-op-clause-later g c =
-    let h = whole g.J.Naming.kind g.J.Naming.earlier c.self.inside.sole in
-    λ keeps. subst (λ (z : StoreView). IsLater z.log h) c.self.view_is (later-self h)
+    λ keeps. later-self c.args.self.now.log
 
 pub returns-in_err-performed-clause-same : goal.returns-in_err-performed-clause-same
 returns-in_err-performed-clause-same g c =
@@ -44,7 +43,7 @@ returns-in_err-performed-clause-same g c =
     (λ keeps. subst (λ (z : StoreView). LooksSame z (view K E new)) c.self.view_is (same-log K E c.self.inside.sole new c.in_err-performed.ensures.none))
 
 pub returns-in_err-performed-clause-cause : goal.returns-in_err-performed-clause-cause
-returns-in_err-performed-clause-cause g c = (let p = err_from_is_err_and c.from_residual.result c.from_residual.ensures.1 in rw (p.1, p.2) (λ keeps. tt))
+returns-in_err-performed-clause-cause g c = (let p = err_from_is_err_and c.from_residual-in_err-performed.result c.from_residual-in_err-performed.ensures.1 in rw (p.1, p.2) (λ keeps. tt))
 
 pub returns-in_err-performed-clause-later : goal.returns-in_err-performed-clause-later
 returns-in_err-performed-clause-later g c =
@@ -96,7 +95,7 @@ returns-in_err-conclude-clause-same g c = λ keeps.
     (get-same K E c.args.path.now c.args.block (c.get_watched.ensures (volume_in K)) old new m come c.in_ok-performed.ensures.hand keeps (c.still.ensures (volume_in K)) last c.in_err-conclude.ensures.quiet))
 
 pub returns-in_err-conclude-clause-cause : goal.returns-in_err-conclude-clause-cause
-returns-in_err-conclude-clause-cause g c = (let p = err_from_is_err_and c.from_residual.result c.from_residual.ensures.1 in rw (p.1, p.2) (λ keeps. tt))
+returns-in_err-conclude-clause-cause g c = (let p = err_from_is_err_and c.from_residual-in_err-conclude.result c.from_residual-in_err-conclude.ensures.1 in rw (p.1, p.2) (λ keeps. tt))
 
 pub returns-in_err-conclude-clause-later : goal.returns-in_err-conclude-clause-later
 returns-in_err-conclude-clause-later g c = λ keeps.

@@ -18,39 +18,38 @@ use Rattle.rz_store.proofs.Wholes.{view, whole, same-log, log-later, come-later,
 use Rattle.rz_store.proofs.Puts.{put-cut, put-tells, put-done, put-undone, put-cause}
 use Rattle.rz_store.proofs.store.Store.put.Goals as goal
 
-pub perform-requires-clause-may : goal.perform-requires-clause-may
-perform-requires-clause-may g c =
-    subst (λ (op : Operation). MayDo (volume_in g.J.Naming.kind) (Client 1) op) (sym c.in_ok-op.ensures)
-    (record {
-      does_it = refl;
-      takes = subst (λ (s : StoreView). length c.args.bytes.now ≤ block_bytes_of s.volume.layout) (sym c.self.view_is) c.requires.short;
-      of_volume = tt;
-    })
+pub perform-requires : goal.perform-requires
+perform-requires g c = record {
+  may = subst (λ (op : Operation). MayDo (volume_in g.J.Naming.kind) (Client 1) op) (sym c.in_ok-op.ensures)
+      (record {
+        does_it = refl;
+        takes = subst (λ (s : StoreView). length c.args.bytes.now ≤ block_bytes_of s.volume.layout) (sym c.self.view_is) c.requires.short;
+        of_volume = tt;
+      });
+}
 
 -- nothing was done
 
 pub returns-in_err-op-clause-kept : goal.returns-in_err-op-clause-kept
 returns-in_err-op-clause-kept g c =
-    let s = view g.J.Naming.kind g.J.Naming.earlier c.self.inside.sole in
-    on-err c.from_residual.result (λ keeps. subst (λ (z : StoreView). LooksSame z s) c.self.view_is (same-self _))
+    on-err c.from_residual.result (λ keeps. same-self _)
 
 pub returns-in_err-op-clause-cause : goal.returns-in_err-op-clause-cause
 returns-in_err-op-clause-cause g c = (let p = err_from_is_err_and c.from_residual.result c.from_residual.ensures.1 in rw (p.1, p.2) (λ keeps. tt))
 
 pub returns-in_err-op-clause-later : goal.returns-in_err-op-clause-later
 returns-in_err-op-clause-later g c =
-    let h = whole g.J.Naming.kind g.J.Naming.earlier c.self.inside.sole in
-    λ keeps. subst (λ (z : StoreView). IsLater z.log h) c.self.view_is (later-self h)
+    λ keeps. later-self c.args.self.now.log
 
 pub returns-in_err-performed-clause-kept : goal.returns-in_err-performed-clause-kept
 returns-in_err-performed-clause-kept g c =
     let K = g.J.Naming.kind in
     let E = g.J.Naming.earlier in
     let new = c.perform.new.self in
-    on-err c.from_residual.result (λ keeps. subst (λ (z : StoreView). LooksSame z (view K E new)) c.self.view_is (same-log K E c.self.inside.sole new c.in_err-performed.ensures.none))
+    on-err c.from_residual-in_err-performed.result (λ keeps. subst (λ (z : StoreView). LooksSame z (view K E new)) c.self.view_is (same-log K E c.self.inside.sole new c.in_err-performed.ensures.none))
 
 pub returns-in_err-performed-clause-cause : goal.returns-in_err-performed-clause-cause
-returns-in_err-performed-clause-cause g c = (let p = err_from_is_err_and c.from_residual.result c.from_residual.ensures.1 in rw (p.1, p.2) (λ keeps. tt))
+returns-in_err-performed-clause-cause g c = (let p = err_from_is_err_and c.from_residual-in_err-performed.result c.from_residual-in_err-performed.ensures.1 in rw (p.1, p.2) (λ keeps. tt))
 
 pub returns-in_err-performed-clause-later : goal.returns-in_err-performed-clause-later
 returns-in_err-performed-clause-later g c =
@@ -85,8 +84,8 @@ returns-in-Some-clause-later g c = λ keeps.
 
 -- it said its word
 
-pub conclude-_said-requires-clause-word : goal.conclude-_said-requires-clause-word
-conclude-_said-requires-clause-word g c =
+pub conclude-said-requires-clause-word : goal.conclude-said-requires-clause-word
+conclude-said-requires-clause-word g c =
     let m = c.in_ok-performed.performed.machine in
     at-word c.in_ok-performed.performed.stopped (ask_of m.layout m.work) c.in_default.not-Some c.in_ok-performed.ensures.word
 
@@ -96,7 +95,7 @@ returns-clause-done g c =
     let E = g.J.Naming.earlier in
     let old = c.self.inside.sole in
     let new = c.perform.new.self in
-    let last = c.conclude-_said.new.self in
+    let last = c.conclude-said.new.self in
     let m = c.in_ok-performed.performed.machine in
     let path = c.args.path.now in
     let bytes = c.args.bytes.now in
@@ -104,10 +103,10 @@ returns-clause-done g c =
     let word = at-word c.in_ok-performed.performed.stopped (ask_of m.layout m.work) c.in_default.not-Some c.in_ok-performed.ensures.word in
     let told = c.put_told-told.result in
     subst (λ (z : StoreView). OnOk told (IfLegal K (HasPut z path c.args.block bytes (view K E last)))) c.self.view_is
-    (ok-if told (λ keeps.
+    (ok-if told (HasPut (view K E old) path c.args.block bytes (view K E last)) (λ keeps.
     put-done (volume_in K) (whole K E old) (whole K E last) bytes path c.args.block told
     (put-tells K E path bytes c.args.block (c.leads_to_block.ensures (volume_in K)) (c.put_watched.ensures (volume_in K)) old new m come c.in_ok-performed.ensures.hand keeps
-    (c.puts_caused.ensures (volume_in K)) (c.still.ensures (volume_in K)) last word c.conclude-_said.ensures.quiet told c.put_told-told.ensures)))
+    (c.puts_caused.ensures (volume_in K)) (c.still.ensures (volume_in K)) last word c.conclude-said.ensures.quiet told c.put_told-told.ensures)))
 
 pub returns-clause-kept : goal.returns-clause-kept
 returns-clause-kept g c =
@@ -115,7 +114,7 @@ returns-clause-kept g c =
     let E = g.J.Naming.earlier in
     let old = c.self.inside.sole in
     let new = c.perform.new.self in
-    let last = c.conclude-_said.new.self in
+    let last = c.conclude-said.new.self in
     let m = c.in_ok-performed.performed.machine in
     let path = c.args.path.now in
     let bytes = c.args.bytes.now in
@@ -123,10 +122,10 @@ returns-clause-kept g c =
     let word = at-word c.in_ok-performed.performed.stopped (ask_of m.layout m.work) c.in_default.not-Some c.in_ok-performed.ensures.word in
     let told = c.put_told-told.result in
     subst (λ (z : StoreView). OnErr told (IfLegal K (LooksSame z (view K E last)))) c.self.view_is
-    (err-if told (λ keeps.
+    (err-if told (LooksSame (view K E old) (view K E last)) (λ keeps.
     put-undone (volume_in K) (whole K E old) (whole K E last) bytes path c.args.block told
     (put-tells K E path bytes c.args.block (c.leads_to_block.ensures (volume_in K)) (c.put_watched.ensures (volume_in K)) old new m come c.in_ok-performed.ensures.hand keeps
-    (c.puts_caused.ensures (volume_in K)) (c.still.ensures (volume_in K)) last word c.conclude-_said.ensures.quiet told c.put_told-told.ensures)))
+    (c.puts_caused.ensures (volume_in K)) (c.still.ensures (volume_in K)) last word c.conclude-said.ensures.quiet told c.put_told-told.ensures)))
 
 pub returns-clause-cause : goal.returns-clause-cause
 returns-clause-cause g c =
@@ -134,7 +133,7 @@ returns-clause-cause g c =
     let E = g.J.Naming.earlier in
     let old = c.self.inside.sole in
     let new = c.perform.new.self in
-    let last = c.conclude-_said.new.self in
+    let last = c.conclude-said.new.self in
     let m = c.in_ok-performed.performed.machine in
     let path = c.args.path.now in
     let bytes = c.args.bytes.now in
@@ -145,7 +144,7 @@ returns-clause-cause g c =
     (cause-if told (IsWriteCause (view K E old) path c.args.block) (λ keeps.
     put-cause (volume_in K) (whole K E old) (whole K E last) bytes path c.args.block told
     (put-tells K E path bytes c.args.block (c.leads_to_block.ensures (volume_in K)) (c.put_watched.ensures (volume_in K)) old new m come c.in_ok-performed.ensures.hand keeps
-    (c.puts_caused.ensures (volume_in K)) (c.still.ensures (volume_in K)) last word c.conclude-_said.ensures.quiet told c.put_told-told.ensures)))
+    (c.puts_caused.ensures (volume_in K)) (c.still.ensures (volume_in K)) last word c.conclude-said.ensures.quiet told c.put_told-told.ensures)))
 
 pub returns-clause-later : goal.returns-clause-later
 returns-clause-later g c = λ keeps.
@@ -153,7 +152,7 @@ returns-clause-later g c = λ keeps.
     let E = g.J.Naming.earlier in
     let old = c.self.inside.sole in
     let new = c.perform.new.self in
-    let last = c.conclude-_said.new.self in
+    let last = c.conclude-said.new.self in
     subst (λ (z : StoreView). IsLater z.log (whole K E last)) c.self.view_is
     (later-then (whole K E old) (whole K E new) (whole K E last) (come-later K E c.in_ok-op.op old new c.in_ok-performed.performed.machine.work c.in_ok-performed.ensures.came)
-    (quiet-later K E new last c.conclude-_said.ensures.quiet keeps)))
+    (quiet-later K E new last c.conclude-said.ensures.quiet keeps)))
