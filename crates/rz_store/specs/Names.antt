@@ -1,19 +1,21 @@
 -- Calls on names, and what a store tells of them.
-use Rattle.std.specs.Prelude.{ℕ, ◌≡◌, ◌⊎◌, Bool, true, false, Option, Some, None, Result, Ok, Err}
+use Rattle.std.specs.Prelude.{ℕ, ◌≡◌, ◌⊎◌, Option, Some, None, Result, Ok, Err}
 use Rattle.rz_events.specs.declared.tree.TreeCall.{TreeCall}
 use Rattle.rz_events.specs.declared.tree.TreeReply.{TreeReply}
 use Rattle.rz_events.specs.declared.tree.TreeReply.TheVariants as reply
 use Rattle.rz_events.specs.declared.tree.TreeFault.{TreeFault}
 use Rattle.rz_events.specs.declared.events.Answer.{Answer}
 use Rattle.rz_events.specs.declared.events.Answer.TheVariants as answer
+use Rattle.rz_export_model.specs.Refusals.{refusal}
 use Rattle.rz_operation_model.specs.Ask.{Ask, AskExport, AskNode, Say, SayDone}
 use Rattle.rz_core.specs.ExportRows.{names_reply}
 use Rattle.rz_contents.specs.Model.{export_at}
 use Rattle.rz_contents.specs.Files.{answer_for}
+use Rattle.rz_store_turns.specs.declared.sole.Stop.{Stop}
 use Rattle.rz_store_turns.specs.declared.sole.Stop.TheVariants as stop
 use Rattle.rz_store.specs.declared.faults.NameFault.{NameFault}
 use Rattle.rz_store.specs.declared.faults.NameFault.TheVariants as fault
-use Rattle.rz_store.specs.Store.{StoreView, IsCalled}
+use Rattle.rz_store.specs.Store.{StoreView, IsCalled, model_in}
 
 -- the names reply so to the call
 abbrev pub Replies : StoreView → TreeCall → TreeReply → Type 0
@@ -39,15 +41,19 @@ change_told (Say (SayDone (answer.Refused f))) = Err (fault.Names f)
 change_told (AskNode n question) = Ok None
 change_told asked = Err fault.Disturbed
 
--- the call was not replied to
-abbrev pub asks_export : Ask → Bool
-asks_export (AskExport c) = true
-asks_export asked = false
+-- what one tells that was stopped before it said a word: where the call was not replied to, it is not done
+abbrev pub stopped_told : Stop → Ask → Result (Option ℕ) NameFault
+stopped_told why (AskExport c) = Err (fault.Stopped why)
+stopped_told why asked = Ok None
 
 -- Calls that only ask.
 
-abbrev pub HasAsked : StoreView → TreeCall → Answer → Type 0
-HasAsked old c a = (told : TreeReply) × Replies old c told × (answer_for told ≡ a)
+-- the names do not refuse the call, and this answers it
+pub record HasAsked (old : StoreView) (c : TreeCall) (a : Answer) : Type 0 where
+  pub told : TreeReply
+  pub replies : Replies old c told
+  pub opens : refusal (model_in old).names c ≡ None
+  pub answers : answer_for told ≡ a
 
 -- what an operation tells that is about to answer
 abbrev pub answer_told : Answer → Result Answer NameFault

@@ -7,11 +7,12 @@ ghost use Rattle.rz_events.specs.declared.files.FileInfo.{FileInfo as AFile};
 ghost use Rattle.rz_events.specs.declared.tree.TreeCall.TheVariants as c;
 ghost use Rattle.rz_events.specs.declared.tree.TreeReply.TheVariants as r;
 ghost use Rattle.rz_operation_model.specs.Ask.{ask_of};
+ghost use Rattle.rz_chronicle.specs.Keys.{IsLater};
 ghost use Rattle.rz_log_laws.specs.Changes.{only_asks};
 ghost use Rattle.rz_contents.specs.Files.{opens_file};
 ghost use Rattle.rz_store.specs.Store.{IfLegal, LooksSame, IsCalled};
 ghost use Rattle.rz_store.specs.Causes.{IsNameCause};
-ghost use Rattle.rz_store.specs.Names.{Replies, HasChanged, HasAsked, change_told, asks_export, answer_told, IsAskTold};
+ghost use Rattle.rz_store.specs.Names.{Replies, HasChanged, HasAsked, change_told, stopped_told, answer_told, IsAskTold};
 
 use crate::faults::NameFault;
 use crate::store::Store;
@@ -20,18 +21,14 @@ use rz_events::{Answer, Attr, Listing, Operation, Text, TreeCall};
 use rz_operation::{Ask, Machine, Saying};
 use rz_shared::Metering;
 use rz_store_turns::{Performed, Stop};
-use std::alloc::Global;
+use std::alloc::{AllocError, Global};
 use std::sync::Wait;
 
 /// A path in new memory.
-fn path_of(alloc: Global, path: &str) -> Result<Text, NameFault>
-    ensures path { IfOk result (λ t. t ≡ path.now) }
-    ensures wanting { IfErr result (λ e. e ≡ NameFault.Stopped Stop.NoMemory) }
+fn path_of(alloc: Global, path: &str) -> Result<Text, AllocError>
+    ensures { IfOk result (λ t. t ≡ path.now) }
 {
-    match Text::from_bytes(alloc, path.as_bytes()) {
-        Ok(path) => Ok(path),
-        Err(_) => Err(NameFault::Stopped(Stop::NoMemory)),
-    }
+    Text::from_bytes(alloc, path.as_bytes())
 }
 
 /// What a call that changes names tells where it is about to answer, or drops what it took away.
@@ -50,11 +47,14 @@ fn change_told(machine: &Machine) -> Result<Option<u128>, NameFault>
     }
 }
 
-/// Whether a call was not replied to.
-fn is_unanswered(machine: &Machine) -> bool
-    ensures { result ≡ asks_export (ask_of machine.now.layout machine.now.work) }
+/// What a call that changes names tells where it was stopped before it said a word.
+fn stopped_told(machine: &Machine, why: Stop) -> Result<Option<u128>, NameFault>
+    ensures { result ≡ stopped_told why (ask_of machine.now.layout machine.now.work) }
 {
-    matches!(machine.next(), Ask::Export(_))
+    match machine.next() {
+        Ask::Export(_) => Err(NameFault::Stopped(why)),
+        _ => Ok(None),
+    }
 }
 
 /// What a call that only asks tells, in new memory.
@@ -100,21 +100,15 @@ impl<D: Disk, J: Metering> Store<D, J> {
     {
         rz_contents::calls_watched();
         rz_contents::still();
-        let Performed { machine, stopped } = match self.sole.perform(rt, Operation::Tree(call)) {
-            Ok(performed) => performed,
-            Err(why) => return Err(NameFault::Stopped(why)),
-        };
+        let performed = self.sole.perform(rt, Operation::Tree(call))?;
+        let Performed { machine, stopped } = performed;
         if let Some(why) = stopped {
-            let unanswered = is_unanswered(&machine);
+            let told = stopped_told(&machine, why);
             self.sole.end(machine);
-            return if unanswered {
-                Err(NameFault::Stopped(why))
-            } else {
-                Ok(None)
-            };
+            return told;
         }
         let told = change_told(&machine);
-        self.sole.finish(rt, machine);
+        let _said = self.sole.conclude(rt, machine);
         told
     }
 
@@ -124,21 +118,20 @@ impl<D: Disk, J: Metering> Store<D, J> {
         requires names { opens_file call ≡ false }
         ensures told { IfOk result (λ a. IfLegal J.kind (HasAsked self.old call a)) }
         ensures same { IfLegal J.kind (LooksSame self.old self.new) }
+        ensures later { IfLegal J.kind (IsLater self.old.log self.new.log) }
         ensures cause { IfErr result (λ e. IfLegal J.kind (IsNameCause self.old call e)) }
         ensures volume { self.new.volume ≡ self.old.volume }
     {
         rz_contents::calls_watched();
         rz_contents::still();
-        let Performed { machine, stopped } = match self.sole.perform(rt, Operation::Tree(call)) {
-            Ok(performed) => performed,
-            Err(why) => return Err(NameFault::Stopped(why)),
-        };
+        let performed = self.sole.perform(rt, Operation::Tree(call))?;
+        let Performed { machine, stopped } = performed;
         if let Some(why) = stopped {
             self.sole.end(machine);
             return Err(NameFault::Stopped(why));
         }
         let told = ask_told(self.sole.alloc(), &machine);
-        self.sole.finish(rt, machine);
+        let _said = self.sole.conclude(rt, machine);
         told
     }
 
@@ -257,6 +250,7 @@ impl<D: Disk, J: Metering> Store<D, J> {
     pub fn stat<R: Wait>(&mut self, rt: &R, path: &str) -> Result<Attr, NameFault>
         ensures told { IfOk result (λ told. IfLegal J.kind (Replies self.old (c.Getattr path.now) (r.Attr told))) }
         ensures same { IfLegal J.kind (LooksSame self.old self.new) }
+        ensures later { IfLegal J.kind (IsLater self.old.log self.new.log) }
         ensures cause { IfErr result (λ e. IfLegal J.kind (IsNameCause self.old (c.Getattr path.now) e)) }
         ensures volume { self.new.volume ≡ self.old.volume }
     {
@@ -274,6 +268,7 @@ impl<D: Disk, J: Metering> Store<D, J> {
     pub fn list<R: Wait>(&mut self, rt: &R, path: &str) -> Result<Listing, NameFault>
         ensures told { IfOk result (λ told. IfLegal J.kind (Replies self.old (c.Readdir path.now) (r.Names told))) }
         ensures same { IfLegal J.kind (LooksSame self.old self.new) }
+        ensures later { IfLegal J.kind (IsLater self.old.log self.new.log) }
         ensures cause { IfErr result (λ e. IfLegal J.kind (IsNameCause self.old (c.Readdir path.now) e)) }
         ensures volume { self.new.volume ≡ self.old.volume }
     {
@@ -291,6 +286,7 @@ impl<D: Disk, J: Metering> Store<D, J> {
     pub fn read_link<R: Wait>(&mut self, rt: &R, path: &str) -> Result<Text, NameFault>
         ensures told { IfOk result (λ told. IfLegal J.kind (Replies self.old (c.Readlink path.now) (r.Target told))) }
         ensures same { IfLegal J.kind (LooksSame self.old self.new) }
+        ensures later { IfLegal J.kind (IsLater self.old.log self.new.log) }
         ensures cause { IfErr result (λ e. IfLegal J.kind (IsNameCause self.old (c.Readlink path.now) e)) }
         ensures volume { self.new.volume ≡ self.old.volume }
     {
