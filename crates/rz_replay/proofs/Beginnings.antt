@@ -1,5 +1,5 @@
 -- What a driver of a request begins with, by the wish.
-use Rattle.std.proofs.Common.{ℕ, true, false, ◌≡◌, ◌≢◌, List, [], refl, subst}
+use Rattle.std.proofs.Common.{ℕ, false, ◌≡◌, ◌≢◌, ◌⊎◌, inl, inr, List, [], refl, sym, subst}
 use Rattle.rz_disk.specs.declared.disk.Disk.{Ghosts}
 use Rattle.rz_events.specs.Volume.{Volume}
 use Rattle.rz_node_model.specs.States.{NodeState, fresh}
@@ -40,6 +40,11 @@ abbrev pub IsPlain : Wish → Type 0
 IsPlain First = ⊥
 IsPlain Again = ⊥
 IsPlain wish = Unit {0}
+
+pub plain-wish : (wish : Wish) → (wish ≡ Replay) ⊎ ((wish ≡ Scrub) ⊎ ((seed : ℕ) × (wish ≡ Load seed))) → IsPlain wish
+plain-wish wish (inl is) = subst IsPlain (sym is) tt
+plain-wish wish (inr (inl is)) = subst IsPlain (sym is) tt
+plain-wish wish (inr (inr is)) = subst IsPlain (sym is.1) tt
 
 pub begins-plain : {D : Type 0} {G : Ghosts D} (v : Volume) (disks : List D) (d : Driver D G) (wish : Wish) → IsPlain wish → (world_of d ≡ new_world v) × HoldsBetweenTurns d (anew (faults_at G.meter disks)) → BeginsAs wish v disks d
 begins-plain v disks d Replay plain begins = begins

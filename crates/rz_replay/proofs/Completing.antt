@@ -1,5 +1,5 @@
 -- Where nothing stands in the way of a replay that goes on after earlier runs, nothing keeps its disks shut, or cuts it off.
-use Rattle.std.proofs.Common.{ℕ, ◌≡◌, ◌⊎◌, inl, inr, IsTrue, List, ◌++◌, Result, Ok, Err, length, refl, subst}
+use Rattle.std.proofs.Common.{ℕ, ◌≡◌, ◌⊎◌, inl, inr, IsTrue, List, ◌++◌, Result, Ok, Err, length, subst}
 use Rattle.rz_disk.specs.declared.disk.Disk.{Ghosts}
 use Rattle.rz_events.specs.declared.events.Event.{Event}
 use Rattle.rz_script.specs.Scripts.{Script}

@@ -1,5 +1,5 @@
 -- A request for which no driver was made.
-use Rattle.std.proofs.Common.{ℕ, zero, ◌≡◌, ◌≢◌, ◌+◌, ◌<◌, ◌≤◌, ◌++◌, ◌∷◌, Bool, List, [], Ok, inl, length, refl, sym, ap, ◌∙◌, subst, arith}
+use Rattle.std.proofs.Common.{ℕ, ◌≡◌, ◌≢◌, ◌+◌, ◌<◌, ◌≤◌, ◌++◌, ◌∷◌, List, [], inl, length, refl, sym, ap, ◌∙◌, subst, arith}
 use Rattle.rz_disk.specs.declared.disk.Disk.{Ghosts}
 use Rattle.rz_events.specs.Volume.{Volume, nodes_of}
 use Rattle.rz_events.specs.declared.files.NodeSpec.{NodeSpec}
@@ -13,7 +13,7 @@ use Rattle.rz_driver.specs.Continued.{IsCauseAgain}
 use Rattle.rz_driver.specs.Formatted.{AreBackWithJournal}
 use Rattle.rz_driver_nodes.specs.Meters.{faults_at}
 use Rattle.rz_report.specs.Output.{Sunk}
-use Rattle.rz_report.specs.Replays.{RequestProgress, Unplayed, Unopened, FollowsRequest}
+use Rattle.rz_report.specs.Replays.{Unplayed, Unopened}
 use Rattle.rz_report.specs.Telling.{Stops}
 use Rattle.rz_report.proofs.Anew.{told_as}
 use Rattle.rz_request.specs.Requests.{disks_for}
@@ -21,7 +21,7 @@ use Rattle.rz_request.specs.declared.refusal.Stop.{Stop}
 use Rattle.rz_request.specs.declared.wishes.Request.{Request}
 use Rattle.rz_request.specs.declared.wishes.Wish.{Wish}
 use Rattle.rz_request.specs.declared.wishes.Wish.TheVariants.{Replay, Load, Scrub, First, Again}
-use Rattle.rz_replay.specs.Disks.{AreAllBack, AreFaultsTold, HandsBack, faulted}
+use Rattle.rz_replay.specs.Disks.{AreAllBack, AreFaultsTold}
 use Rattle.rz_replay.specs.Drivers.{IsUnmade, unformatted, unopened}
 use Rattle.rz_replay.specs.Replays.{PlaysRequest}
 use Rattle.rz_replay.proofs.Continuing.{any_told}

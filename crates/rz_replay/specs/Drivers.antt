@@ -1,5 +1,5 @@
 -- The driver that a request is played on, or why there is none.
-use Rattle.std.specs.Prelude.{ℕ, Bool, true, false, IsTrue, ◌≡◌, List, []}
+use Rattle.std.specs.Prelude.{Bool, true, false, IsTrue, ◌≡◌, List, []}
 use Rattle.rz_disk.specs.declared.disk.Disk.{Ghosts}
 use Rattle.rz_events.specs.Volume.{Volume, nodes_of}
 use Rattle.rz_events.specs.declared.events.Event.{Event}

@@ -1,4 +1,4 @@
-use Rattle.std.proofs.Common.{◌≡◌, ℕ, IsTrue, List, [], length, refl, sym, ap, ◌∙◌, subst, rules, arith}
+use Rattle.std.proofs.Common.{IsTrue, List, [], length, sym, ap, ◌∙◌, subst, arith}
 use Rattle.rz_events.specs.Volume.{Volume, nodes_of}
 use Rattle.rz_events.specs.declared.events.Event.{Event}
 use Rattle.rz_driver.specs.Continued.{AllOpen, AreLeft}
@@ -8,7 +8,7 @@ use Rattle.rz_play.specs.World.{new_world}
 use Rattle.rz_restart_laws.specs.Earlier.{IsEarlier, IsRestarted}
 use Rattle.rz_request.specs.declared.wishes.Wish.{Wish}
 use Rattle.rz_replay.specs.Drivers.{BeginsAs, has_journal}
-use Rattle.rz_replay.proofs.Beginnings.{IsPlain, begins-plain, plain-unjournaled}
+use Rattle.rz_replay.proofs.Beginnings.{IsPlain, begins-plain, plain-unjournaled, plain-wish}
 use Rattle.rz_replay.proofs.drivers.driver_for.Goals as goal
 
 pub returns-in-Ok-clause-made : goal.returns-in-Ok-clause-made
@@ -53,7 +53,7 @@ returns-in-Ok-new g c =
     let disks = c.args.disks.items in
     let volume = c.volume-volume.ensures in
     let wish : Wish = c.args.request.now.wish in
-    let plain : IsPlain c.args.request.now.wish = search rules in
+    let plain : IsPlain wish = plain-wish wish c.in-Replay.is in
     record {
       made = record {
         ready = e.ready;

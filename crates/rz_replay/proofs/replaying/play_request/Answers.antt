@@ -1,21 +1,20 @@
-use Rattle.std.proofs.Common.{◌≡◌, ◌≢◌, ◌-◌, ◌+◌, ◌++◌, ◌∷◌, ◌<◌, ◌^◌, ℕ, Bool, true, false, IsTrue, List, [], Option, Some, length, map, reverse, refl, sym, ap, ◌∙◌, subst, inl, inr, arith}
+use Rattle.std.proofs.Common.{◌≡◌, ◌≢◌, ◌-◌, ◌+◌, ◌++◌, ◌∷◌, ◌<◌, ◌^◌, ℕ, Bool, true, false, IsTrue, List, [], Option, Some, length, reverse, refl, sym, ap, ◌∙◌, subst, inl, inr, arith}
+use Rattle.std.specs.Global.{Vec}
 use Rattle.std.specs.Prelude.{option_to_list}
-use Rattle.std.proofs.lemmas.List.{append-nil, reverse-reverse, length-map}
+use Rattle.std.proofs.lemmas.List.{append-nil, reverse-reverse}
 use Rattle.rz_disk.specs.Meter.{faults, Rises as HasRisen}
 use Rattle.rz_disk.specs.UnderFuse.{UnderFuse}
 use Rattle.rz_driver_actors.specs.declared.shared.Shared.{Shared}
 use Rattle.rz_driver.proofs.FetchLemmas.{asked-counted}
 use Rattle.rz_driver.specs.Continued.{AreLeft}
 use Rattle.rz_driver.specs.Endings.{EndsAsRefused, StandsForLog}
-use Rattle.rz_driver.specs.Worlds.{HasCounted, HoldsBetweenTurns, LeavesAtEnd, anew, is_known, left_behind, tells-known, world_of}
+use Rattle.rz_driver.specs.Worlds.{HoldsBetweenTurns, LeavesAtEnd, anew, is_known, left_behind, tells-known, world_of}
 use Rattle.rz_restart_laws.specs.Earlier.{IsEarlier, IsRestarted}
 use Rattle.rz_events.specs.Volume.{Volume, nodes_of}
 use Rattle.rz_events.specs.declared.export.Call.{Call}
 use Rattle.rz_events.specs.declared.events.Event.{Event}
-use Rattle.rz_events.specs.declared.files.NodeSpec.{NodeSpec}
 use Rattle.rz_nodes.specs.Formatted.{disks_of}
 use Rattle.rz_metadata.specs.Stands.{disk_of, export_in, is_journaled, refusal_of}
-use Rattle.rz_metadata.specs.declared.journaled.JournalRefusal.TheVariants.{Failed}
 use Rattle.rz_script.specs.declared.line.Line.{Line}
 use Rattle.rz_driver_nodes.specs.Meters.{faults_at}
 use Rattle.rz_driver_nodes.specs.Servers.{state_in}
@@ -36,13 +35,12 @@ use Rattle.rz_report.specs.Output.{Sunk}
 use Rattle.rz_report.specs.Replays.{HasJournal, IsToldAs, MayEnd, Performed}
 use Rattle.rz_report.specs.Scrubs.{BetweenTurns}
 use Rattle.rz_report.specs.Telling.{IsPlayAgain, IsPlayOf, PerformsAs, TellsOwn}
-use Rattle.rz_request.specs.Requests.{disks_for, nodes_in}
-use Rattle.rz_request.specs.declared.refusal.Stop.{Stop}
+use Rattle.rz_request.specs.Requests.{disks_for}
 use Rattle.rz_request.specs.declared.wishes.Request.{Request}
 use Rattle.rz_request.specs.declared.wishes.Wish.{Wish}
 use Rattle.rz_request.specs.declared.wishes.Wish.TheVariants.{Replay, Load, Scrub, First, Again}
 use Rattle.rz_replay.specs.Disks.{AreAllBack, AreFaultsTold, AreImagesTold, AreLocksKept, AreUsedAgain, IsJournalLeft, IsNextTold, IsPlayAfter, LeavesNext, MayBeResumed, faulted, numbers_of_volume}
-use Rattle.rz_replay.specs.Drivers.{BeginsAs, GoesOnOver, IsDriverFor, IsUnmade, has_journal}
+use Rattle.rz_replay.specs.Drivers.{GoesOnOver, IsDriverFor, IsUnmade, has_journal}
 use Rattle.rz_replay.specs.Replays.{PlaysRequest}
 use Rattle.rz_replay.proofs.Continuing.{any_told, own_as}
 use Rattle.rz_replay.proofs.Beginnings.{begins-again, begins-anew, first-world, unjournaled}
@@ -52,7 +50,7 @@ use Rattle.rz_replay.proofs.replaying.play_request.Given as given
 use Rattle.rz_replay.proofs.replaying.play_request.Goals as goal
 
 pub driver_for-requires : goal.driver_for-requires
-driver_for-requires g c = ap (λ (xs : List g.row.D.Denot). length xs) (rw c.replace-lent.ensures.value refl) ∙ c.requires
+driver_for-requires g c = record { count = ap (λ (v : Vec g.row.D.Denot). length v.items) c.replace-lent.ensures.value ∙ c.requires }
 
 pub perform-status-requires-clause-new : goal.perform-status-requires-clause-new
 perform-status-requires-clause-new g c = first-world c.args.request.now.script.volume _ c.in-Ok.driver c.args.request.now.wish c.in-Ok.ensures.made.begins
@@ -137,7 +135,7 @@ module _ (g : given.Over) (c : goal.After-drop-disks g) where
   log_is = ap reverse c.close-log.ensures.log ∙ reverse-reverse log
 
   made : IsDriverFor request old c.in-Ok.driver
-  made = let lent : c.replace-lent.result.items ≡ old = rw c.replace-lent.ensures.value refl in
+  made = let lent : c.replace-lent.result.items ≡ old = ap (λ (v : Vec g.row.D.Denot). v.items) c.replace-lent.ensures.value in
       subst (λ (xs : List g.row.D.Denot). IsDriverFor request xs c.in-Ok.driver) lent c.in-Ok.ensures.made
 
   volume_is : c.perform-status.new.stage.volume ≡ volume
@@ -247,8 +245,11 @@ module _ (g : given.Over) (c : goal.After-drop-disks g) where
 
 -- Without a journal.
 
+driver-plain : (g : given.Over) (c : goal.After-drop-disks g) → c.args.request.now.wish ≢ First → c.args.request.now.wish ≢ Again → is_journaled c.in-Ok.driver.shared.export ≡ false
+driver-plain g c no_first no_again = (made g c).journal ∙ unjournaled c.args.request.now.wish no_first no_again
+
 made-plain : (g : given.Over) (c : goal.After-drop-disks g) → c.args.request.now.wish ≢ First → c.args.request.now.wish ≢ Again → is_journaled c.perform-status.new.stage.shared.export ≡ false
-made-plain g c no_first no_again = c.perform-status.ensures.journal ∙ (made g c).journal ∙ unjournaled c.args.request.now.wish no_first no_again
+made-plain g c no_first no_again = c.perform-status.ensures.journal ∙ driver-plain g c no_first no_again
 
 plain : (g : given.Over) (c : goal.After-drop-disks g) → c.args.request.now.wish ≢ First → c.args.request.now.wish ≢ Again
     → PlaysRequest g.D.Disk (request g c) (old g c) (new g c) (lost g c) (sink g c) (status g c) (log g c)
@@ -276,7 +277,7 @@ plain g c no_first no_again =
     ] in
     let B : Volume → Type 0 = λ x. AreFaultsTold g.D.Disk.meter x (old g c) (new g c) (later g c ++ h) in (
       Performed (end g c) (later g c),
-      ((plain-end (end g c) _ (request g c) _ _ is_plain c.perform-status.ensures.performed.3, performed_as g c no_again), told g c no_again),
+      ((plain-end (end g c) _ (request g c) _ _ (driver-plain g c no_first no_again) c.perform-status.ensures.performed.3, performed_as g c no_again), told g c no_again),
       plain-back g.D.Disk (Performed (end g c) (later g c)) (request g c).wish v (lines g c) (lost g c) _ _ h no_first no_again
           (subst B (volume_is g c) counted, subst (I v) (append-nil h) (subst (λ (x : Volume). I x (h ++ [])) (volume_is g c) images)),
     )
@@ -470,7 +471,7 @@ returns-in-Err g c =
       old = g.O.Sink.faults c.args.output.now;
       new = g.O.Sink.faults c.stop-status.new.output;
     } in
-    let lent : c.replace-lent.result.items ≡ c.args.disks.now.items = rw c.replace-lent.ensures.value refl in
+    let lent : c.replace-lent.result.items ≡ c.args.disks.now.items = ap (λ (v : Vec g.row.D.Denot). v.items) c.replace-lent.ensures.value in
     let back_so = subst (λ (xs : List g.row.D.Denot). IsUnmade g.D.Disk c.args.request.now.wish c.args.request.now.script.volume xs c.in-Err.back.items c.in-Err.unmade) lent c.in-Err.ensures.unmade in
     not-made g.D.Disk c.args.request.now c.args.disks.now.items c.in-Err.back.items (g.L.Link.lost c.args.link.now - g.L.Link.lost c.args.link.now) end_sink
     c.unplayed.result.status (reverse c.unplayed.result.log.items) (ap reverse c.unplayed.ensures.log) c.in-Err.unmade c.requires back_so (rw c.unplayed.ensures.status c.stop-status.ensures)
