@@ -1,0 +1,3 @@
+pub mod Described
+pub mod Answers
+pub mod Written
