@@ -204,20 +204,8 @@ module _ (old new : StoreView) where
 
   -- another new object
 
-  pub made-dir : (path : List ℕ) (fid : ℕ) → HasChanged old (c.Mkdir path) (Some fid) new → IsCalled old.volume old.log (c.Mkdir path) (r.Made fid) new.log
-  made-dir path fid is =
-      let t = has-answered (c.Mkdir path) (Some fid) is in
-      let made : Ok (Some (s-old.tree.made + 1)) ≡ Ok (Some fid) = t.1 in
-      subst (λ (n : ℕ). IsCalled old.volume old.log (c.Mkdir path) (r.Made n) new.log) cc t.0
-
   pub always-made : (path : List ℕ) → HasChanged old (c.Mkdir path) None new → ⊥
   always-made path is = (let none : Ok (Some (s-old.tree.made + 1)) ≡ Ok None = (has-answered (c.Mkdir path) None is).1 in cc)
-
-  pub made-link : (target path : List ℕ) (fid : ℕ) → HasChanged old (c.Symlink target path) (Some fid) new → IsCalled old.volume old.log (c.Symlink target path) (r.Made fid) new.log
-  made-link target path fid is =
-      let t = has-answered (c.Symlink target path) (Some fid) is in
-      let made : Ok (Some (s-old.tree.made + 1)) ≡ Ok (Some fid) = t.1 in
-      subst (λ (n : ℕ). IsCalled old.volume old.log (c.Symlink target path) (r.Made n) new.log) cc t.0
 
   pub always-linked : (target path : List ℕ) → HasChanged old (c.Symlink target path) None new → ⊥
   always-linked target path is = (let none : Ok (Some (s-old.tree.made + 1)) ≡ Ok None = (has-answered (c.Symlink target path) None is).1 in cc)
