@@ -10,8 +10,8 @@ use Rattle.rz_contents.specs.Model.{Model, byte_at, IsSame}
 use Rattle.rz_store.specs.Store.{StoreView, LooksSame}
 use Rattle.rz_store.specs.Causes.{WasCause}
 
-pub same-self : (a : Model) → IsSame a a
-same-self a = record { names = refl; blocks = λ key. refl }
+pub self-same : (a : Model) → IsSame a a
+self-same a = record { names = refl; blocks = λ key. refl }
 
 pub same-then : (a b c : Model) → IsSame a b → IsSame b c → IsSame a c
 same-then a b c ab bc = record { names = bc.names ∙ ab.names; blocks = λ key. bc.blocks key ∙ ab.blocks key }

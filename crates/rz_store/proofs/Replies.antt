@@ -1,5 +1,5 @@
 -- What the names reply to calls.
-use Rattle.std.proofs.Common.{ℕ, Bool, true, false, ◌≡◌, inl, inr, List, [], ◌∷◌, ◌++◌, Option, Some, None, refl, sym, ◌∙◌, ap, subst}
+use Rattle.std.proofs.Common.{ℕ, ◌+◌, Bool, true, false, ◌≡◌, inl, inr, List, [], ◌∷◌, ◌++◌, Option, Some, None, refl, sym, ◌∙◌, ap, subst}
 use Rattle.std.specs.Prelude.{IsTrue, is_none, Result, Ok, Err}
 use Rattle.std.specs.Option.{option_map_or, option_or}
 use Rattle.rz_events.specs.declared.files.FileInfo.{FileInfo}
@@ -189,6 +189,26 @@ module _ (old new : StoreView) where
       sym (ap made_by told-is) ∙ is,
     )
   ]
+
+  -- a new file
+
+  pub created : (path : List ℕ) (fid : ℕ) → HasChanged old (c.Create path) (Some fid) new
+      → (file : FileInfo) × (file.fid ≡ fid) × IsCalled old.volume old.log (c.Create path) (r.MadeFile file) new.log
+  created path fid is =
+      let t = has-answered (c.Create path) (Some fid) is in
+      let made : Ok (Some (s-old.tree.made + 1)) ≡ Ok (Some fid) = t.1 in
+      (record { fid = s-old.tree.made + 1; cid = (new_places s-old).cid; places = (new_places s-old).places; size = 0 }, cc, t.0)
+
+  pub always-created : (path : List ℕ) → HasChanged old (c.Create path) None new → ⊥
+  always-created path is = (let none : Ok (Some (s-old.tree.made + 1)) ≡ Ok None = (has-answered (c.Create path) None is).1 in cc)
+
+  -- another new object
+
+  pub always-made : (path : List ℕ) → HasChanged old (c.Mkdir path) None new → ⊥
+  always-made path is = (let none : Ok (Some (s-old.tree.made + 1)) ≡ Ok None = (has-answered (c.Mkdir path) None is).1 in cc)
+
+  pub always-linked : (target path : List ℕ) → HasChanged old (c.Symlink target path) None new → ⊥
+  always-linked target path is = (let none : Ok (Some (s-old.tree.made + 1)) ≡ Ok None = (has-answered (c.Symlink target path) None is).1 in cc)
 
 module _ (old : StoreView) where
   abbrev now : ExportState

@@ -17,7 +17,7 @@ use Rattle.rz_store_turns.specs.declared.sole.Stop.{Stop}
 use Rattle.rz_store_turns.specs.Performed.{HasCome, IsAtWord, IsQuiet}
 use Rattle.rz_chronicle.specs.Keys.{IsLater}
 use Rattle.rz_store.specs.Store.{StoreView}
-use Rattle.rz_store.proofs.Looks.{same-self}
+use Rattle.rz_store.proofs.Looks.{self-same}
 
 module _ (kind : List ℕ) (earlier : List Event) where
   abbrev v : Volume
@@ -32,7 +32,7 @@ module _ (kind : List ℕ) (earlier : List Event) where
 
   -- nothing was added
   pub same-log : (old new : SoleView) → new.pass.log ≡ old.pass.log → IsSame (model_of v (whole old)) (model_of v (whole new))
-  same-log old new is = subst (λ (h : List Event). IsSame (model_of v (whole old)) (model_of v (h ++ earlier))) (sym is) (same-self (model_of v (whole old)))
+  same-log old new is = subst (λ (h : List Event). IsSame (model_of v (whole old)) (model_of v (h ++ earlier))) (sym is) (self-same (model_of v (whole old)))
 
   pub log-later : (old new : SoleView) → new.pass.log ≡ old.pass.log → IsLater (whole old) (whole new)
   log-later old new is = ([], ap (λ (h : List Event). h ++ earlier) is)
@@ -78,6 +78,10 @@ pub before-word : (o : Option Stop) (why : Stop) (a : Ask) → o ≡ Some why �
 before-word o why a is at = subst (λ (p : Option Stop). IsAtWord p a) is at
 
 -- What is so over a book that keeps its log legal is so of what was told.
+
+pub on-err : {T E P : Type 0} (r : Result T E) → P → OnErr r P
+on-err (Ok x) so = tt
+on-err (Err e) so = so
 
 pub ok-if : {T E A : Type 0} (r : Result T E) (P : Type 0) → (A → OnOk r P) → OnOk r (A → P)
 ok-if (Ok x) P so = so

@@ -7,12 +7,11 @@ use Rattle.rz_operation_model.specs.Ask.{ask_of}
 use Rattle.rz_block_laws.specs.ActingLaws.{MayDo}
 use Rattle.rz_chronicle.specs.Keys.{IsLater}
 use Rattle.rz_chronicle.specs.Kinds.{volume_in}
-use Rattle.rz_threads_steps.proofs.Acts.{on-err}
 use Rattle.rz_store.specs.Causes.{IsNameCause}
 use Rattle.rz_store.specs.Names.{HasChanged}
 use Rattle.rz_store.specs.Store.{StoreView, IfLegal, LooksSame}
-use Rattle.rz_store.proofs.Looks.{same-self, later-self, later-then}
-use Rattle.rz_store.proofs.Wholes.{view, whole, same-log, log-later, come-later, quiet-later, ended-same, ended-later, at-word, before-word, err-if, told-if, cause-if}
+use Rattle.rz_store.proofs.Looks.{self-same, later-self, later-then}
+use Rattle.rz_store.proofs.Wholes.{on-err, view, whole, same-log, log-later, come-later, quiet-later, ended-same, ended-later, at-word, before-word, err-if, told-if, cause-if}
 use Rattle.rz_store.proofs.Calls.{changer-does, change-ended, change-tells, change-done, change-undone, change-cause}
 use Rattle.rz_store.proofs.store.Store.change.Goals as goal
 

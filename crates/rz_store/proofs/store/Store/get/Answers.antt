@@ -9,10 +9,9 @@ use Rattle.rz_chronicle.specs.Keys.{IsLater}
 use Rattle.rz_chronicle.specs.Kinds.{volume_in}
 use Rattle.rz_operation.specs.Machine.{text_of}
 use Rattle.rz_store_turns.specs.Performed.{HasCome}
-use Rattle.rz_threads_steps.proofs.Acts.{on-err}
 use Rattle.rz_store.specs.Causes.{IsReadCause}
 use Rattle.rz_store.specs.Store.{StoreView, IfLegal, LooksSame, HasGot}
-use Rattle.rz_store.proofs.Looks.{same-self, later-self, later-then}
+use Rattle.rz_store.proofs.Looks.{self-same, later-self, later-then}
 use Rattle.rz_store.proofs.Wholes.{view, whole, same-log, log-later, come-later, quiet-later, ended-same, ended-later, at-word, before-word, told-if, cause-if}
 use Rattle.rz_store.proofs.Gets.{get-came, get-same, get-says, get-done, get-cause}
 use Rattle.rz_store.proofs.store.Store.get.Goals as goal
@@ -26,7 +25,7 @@ perform-requires g c = record {
 
 pub returns-in_err-op-clause-same : goal.returns-in_err-op-clause-same
 returns-in_err-op-clause-same g c =
-    λ keeps. same-self _
+    λ keeps. self-same _
 
 pub returns-in_err-op-clause-cause : goal.returns-in_err-op-clause-cause
 returns-in_err-op-clause-cause g c = (let p = err_from_is_err_and c.from_residual.result c.from_residual.ensures.1 in rw (p.1, p.2) (λ keeps. tt))

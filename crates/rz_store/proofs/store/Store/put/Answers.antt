@@ -10,11 +10,10 @@ use Rattle.rz_block_laws.specs.ActingLaws.{MayDo}
 use Rattle.rz_chronicle.specs.Keys.{IsLater}
 use Rattle.rz_chronicle.specs.Kinds.{volume_in}
 use Rattle.rz_store_turns.specs.Performed.{HasCome}
-use Rattle.rz_threads_steps.proofs.Acts.{on-err}
 use Rattle.rz_store.specs.Causes.{IsWriteCause}
 use Rattle.rz_store.specs.Store.{StoreView, IfLegal, LooksSame, HasPut}
-use Rattle.rz_store.proofs.Looks.{same-self, later-self, later-then}
-use Rattle.rz_store.proofs.Wholes.{view, whole, same-log, log-later, come-later, quiet-later, ended-same, ended-later, at-word, before-word, ok-if, err-if, cause-if}
+use Rattle.rz_store.proofs.Looks.{self-same, later-self, later-then}
+use Rattle.rz_store.proofs.Wholes.{on-err, view, whole, same-log, log-later, come-later, quiet-later, ended-same, ended-later, at-word, before-word, ok-if, err-if, cause-if}
 use Rattle.rz_store.proofs.Puts.{put-cut, put-tells, put-done, put-undone, put-cause}
 use Rattle.rz_store.proofs.store.Store.put.Goals as goal
 
@@ -32,7 +31,7 @@ perform-requires g c = record {
 
 pub returns-in_err-op-clause-kept : goal.returns-in_err-op-clause-kept
 returns-in_err-op-clause-kept g c =
-    on-err c.from_residual.result (λ keeps. same-self _)
+    on-err c.from_residual.result (λ keeps. self-same _)
 
 pub returns-in_err-op-clause-cause : goal.returns-in_err-op-clause-cause
 returns-in_err-op-clause-cause g c = (let p = err_from_is_err_and c.from_residual.result c.from_residual.ensures.1 in rw (p.1, p.2) (λ keeps. tt))
