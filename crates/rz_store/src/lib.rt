@@ -6,17 +6,20 @@
 //! answers gives exactly the bytes that are there, and each refusal says why. Memory or the journal may be wanting at
 //! any time. That a call returns is not said.
 //!
-//! In reading order: `faults`, `store`, `blocks`, `names`, `texts`, `ranges`.
+//! In reading order: `faults`, `store`, `opening`, `blocks`, `names`, `texts`, `ranges`, `closing`.
 #![tactic(auto)]
 
 mod blocks;
+mod closing;
 mod faults;
 mod names;
+mod opening;
 mod ranges;
 mod store;
 mod texts;
 
 pub use faults::{NameFault, ReadFault, WriteFault};
+pub use opening::seen_again;
 pub use ranges::ShortWrite;
-pub use rz_store_turns::Stop;
+pub use rz_store_turns::{ClosedStore, Stop};
 pub use store::Store;

@@ -1,3 +1,5 @@
 pub mod Sole
 pub mod Runs
 pub mod Performed
+pub mod Joined
+pub mod Closed
