@@ -20,11 +20,16 @@ mod find;
 mod fours;
 mod frame;
 mod lines;
+mod one;
+mod one_compare;
+mod one_fill;
+mod one_peel;
 mod peel;
 mod starts;
 mod take;
 
 pub use find::find_four;
 pub use frame::Frame;
+pub use one::find_one;
 pub use starts::Group;
 pub use take::{take_four, take_one};
