@@ -12,7 +12,7 @@ use crate::eight::write_angles;
 use crate::inverse::total_bins;
 use crate::lent::bins_from;
 use crate::room::four_frame;
-use crate::two::find_two;
+use crate::two::find_rows;
 use mj_angles::Layout;
 use mj_inverse_four::{Group, find_one};
 
@@ -30,10 +30,10 @@ pub fn find_alone(layout: Layout, positions: &[u32], bins: &[u64], out: &mut [u6
     ensures unchanged { result ≡ false → out.new ≡ out.old }
 {
     match layout {
-        Layout::L0 => find_two(layout, positions, bins, out),
-        Layout::L0B1 => find_two(layout, positions, bins, out),
-        Layout::L0B2 => find_two(layout, positions, bins, out),
-        Layout::L0B3 => find_two(layout, positions, bins, out),
+        Layout::L0 => find_rows::<288>(layout, positions, bins, out),
+        Layout::L0B1 => find_rows::<544>(layout, positions, bins, out),
+        Layout::L0B2 => find_rows::<1056>(layout, positions, bins, out),
+        Layout::L0B3 => find_rows::<2080>(layout, positions, bins, out),
         Layout::L1 => find_with::<632>(layout, positions, bins, out),
         Layout::L1B1 => find_with::<1144>(layout, positions, bins, out),
         Layout::L1B2 => find_with::<2168>(layout, positions, bins, out),
