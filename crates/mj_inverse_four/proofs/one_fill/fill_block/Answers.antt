@@ -1,4 +1,4 @@
-use Rattle.std.proofs.Common.{arith, ◌≡◌, ◌<◌, ◌≤◌, ◌+◌, ◌*◌, ◌-◌, ℕ, length, get_or, ap, ◌∙◌, subst, lit<}
+use Rattle.std.proofs.Common.{arith, rules, ◌≡◌, ◌<◌, ◌≤◌, ◌+◌, ◌*◌, ◌-◌, ℕ, length, get_or, ap, ◌∙◌, subst, lit<}
 use Rattle.mj_angles.specs.Projection.{bins, row_start}
 use Rattle.mj_inverse_four.specs.Rows.{AreBins, angle_at, direction_of}
 use Rattle.mj_inverse_four.specs.One.{fourfold}
@@ -21,6 +21,20 @@ fill_row-requires-clause-within c =
     let words = ap (λ xs. length xs) c.words_at-words.ensures in
     let all : bins c.slope_at.result.angle rows c.args.frame.cols ≡ bins (angle_at c.args.angles.now (c.args.frame.rows - 1 - c.loop-n.n)) rows c.args.frame.cols = ap (λ q. bins q rows c.args.frame.cols) p in
     omega arith
+
+pub overflow_add-starts : goal.overflow_add-starts
+overflow_add-starts c =
+    let rows : ℕ = c.args.frame.rows in
+    let test = c.loop-n-test.true in
+    let there = c.requires.there.within (c.args.frame.rows - 1 - c.loop-n.n) (omega arith) in
+    let starts = c.starts_of-starts.ensures 0 (lit< tt) in
+    let block = block_within c.args.group 0 (get_or c.args.strides.now (c.args.frame.rows - 1 - c.loop-n.n) 0) in
+    let first = c.first_bin-from.ensures.within c.args.frame.cols in
+    let p = c.slope_at.ensures.value in
+    let words = ap (λ xs. length xs) c.words_at-words.ensures in
+    let all : bins c.slope_at.result.angle rows c.args.frame.cols ≡ bins (angle_at c.args.angles.now (c.args.frame.rows - 1 - c.loop-n.n)) rows c.args.frame.cols = ap (λ q. bins q rows c.args.frame.cols) p in
+    let within : c.starts_of-starts.result.first + c.first_bin-from.result ≤ length c.words_at-words.result.now = omega arith in
+    search (rules, within)
 
 pub starts_of-starts-requires-clause-within : goal.starts_of-starts-requires-clause-within
 starts_of-starts-requires-clause-within c =
