@@ -1,14 +1,17 @@
 -- One block as four that are the same.
-use Rattle.std.proofs.Common.{◌≡◌, ℕ, zero, suc, ◌+◌, ◌-◌, ◌*◌, ◌/◌, ◌<◌, ◌≤◌, refl, sym, ap, ◌∙◌, arith, ℤ, List, [], ◌∷◌, length, get_or}
-use Rattle.mj_angles.specs.Projection.{bin, bins, offset}
-use Rattle.mj_angles.proofs.Sums.{xor_below-same}
-use Rattle.std.specs.Prelude.{min, unsigned_abs}
-use Rattle.mj_inverse_four.specs.Rows.{AreLines, IsPadded, inner, line_sum, no_line, room_of, step_of, width_of}
+use Rattle.std.proofs.Common.{◌≡◌, ℕ, zero, suc, ◌+◌, ◌-◌, ◌*◌, ◌/◌, ◌<◌, ◌≤◌, refl, sym, ap, ◌∙◌, subst, arith, ℤ, List, [], ◌∷◌, get_or}
+use Rattle.std.specs.Prelude.{min, unsigned_abs, pos, negsuc}
+use Rattle.mj_angles.specs.Projection.{bin, bins, offset, row_start}
+use Rattle.mj_angles.proofs.Order.{lifted, slope_sum}
+use Rattle.mj_angles.proofs.Peel.{turn_of}
+use Rattle.mj_angles.proofs.Sums.{row_within, xor_below-same}
+use Rattle.mj_inverse_four.specs.Fragments.{AreAngles}
+use Rattle.mj_inverse_four.specs.Rows.{AreLines, IsPadded, direction_of, inner, line_sum, no_line, step_of, width_of}
 use Rattle.mj_inverse_four.specs.One.{AreOneLines, fourfold, narrow, one_line_sum, one_room_of}
 use Rattle.mj_inverse_four.specs.Starts.{block_of}
 use Rattle.mj_inverse_four.specs.declared.lines.Line.{Line}
 use Rattle.mj_inverse_four.specs.declared.starts.Group.{Group}
-use Rattle.mj_inverse_four.proofs.Crossed.{line-is, line_fits, own_fits}
+use Rattle.mj_inverse_four.proofs.Crossed.{line-is, line_fits, own_fits, same_place}
 
 pub fourfold_at : (g : List ℕ) (m : ℕ) → get_or (fourfold g) m 0 ≡ get_or g (m / 4) 0
 unfolding fourfold
@@ -86,3 +89,54 @@ one_own_fits rows cols reach n k h m = less (n * width_of cols reach + (reach + 
   where
     less : (x y z : ℕ) → 4 * x + 4 ≤ 4 * (y + z) → x < y + z
     less x y z fits = omega arith
+
+pub line_at : (at reach off start k : ℕ) → at ≡ reach - off + start → at + k ≡ reach - off + (start + k)
+line_at at reach off start k e = omega arith
+
+-- the line of a word stays within the room
+pub read_fits : (rows cols reach : ℕ) (angles : List ℤ) (lines : List Line) (n k j : ℕ) → AreAngles rows reach angles → AreOneLines rows cols reach (direction_of rows angles) lines rows → n < rows → k < cols → j < rows →
+    (get_or lines n no_line).at + k + j * (get_or lines n no_line).step < one_room_of rows cols reach
+read_fits rows cols reach angles lines n k j are read h m near =
+    let p : ℤ = direction_of rows angles n in
+    let b : ℕ = row_start (direction_of rows angles n) rows n + k in
+    let at = line_at (get_or lines n no_line).at reach (offset (direction_of rows angles n) rows) (row_start (direction_of rows angles n) rows n) k (read.ats n h) in
+    let within : b < bins (direction_of rows angles n) rows cols = (let r = row_within (direction_of rows angles n) rows cols n h in omega arith) in
+    one_line_fits rows cols reach p b j _ _ at (read.steps n h) (are.near (rows - 1 - n) (omega arith)) (are.reaches (rows - 1 - n) (omega arith)) within near
+
+-- of two words of one turn in rows that follow one another, the first is on the line of the second
+along : (z : ℤ) (rows m k k' : ℕ) → unsigned_abs z ≤ 16 → suc m < rows → k + lifted 16 z ≡ k' + 16 → row_start z rows (suc m) + k ≡ row_start z rows m + k'
+along (pos a) rows m k k' small h e = omega arith
+along (negsuc a) rows m k k' small h e =
+    let r : ℕ = rows - 1 - suc m in
+    let rest : rows - 1 - m ≡ r + 1 = omega arith in
+    let whole : (a + 1) * (rows - 1 - m) ≡ (a + 1) * (r + 1) = ap (λ x. (a + 1) * x) rest in
+    omega arith
+
+on_line : (p : ℕ → ℤ) (rows m k k' : ℕ) → unsigned_abs (p (suc m)) ≤ 16 → suc m < rows → k + turn_of p 16 rows (suc m) ≡ k' + turn_of p 16 rows m →
+    row_start (p (suc m)) rows (suc m) + k ≡ row_start (p (suc m)) rows m + k'
+on_line p rows m k k' small h e =
+    let step : k + lifted 16 (p (suc m)) ≡ k' + 16 = less (slope_sum (λ l. lifted 16 (p l)) m) (lifted 16 (p (suc m))) rows m k k' h e in
+    along (p (suc m)) rows m k k' small h step
+  where
+    less : (s q rows m k k' : ℕ) → suc m < rows → k + (s + q + 16 * (rows - 1 - suc m)) ≡ k' + (s + 16 * (rows - 1 - m)) → k + q ≡ k' + 16
+    less s q rows m k k' h e = omega arith
+
+-- where it stands
+pub row_before : (rows cols reach : ℕ) (angles : List ℤ) (lines : List Line) (m n k k' : ℕ) → AreAngles rows reach angles → AreOneLines rows cols reach (direction_of rows angles) lines rows → m + 1 ≡ n → n < rows →
+    k + turn_of (direction_of rows angles) 16 rows n ≡ k' + turn_of (direction_of rows angles) 16 rows m →
+    m * width_of cols reach + (reach + k') ≡ (get_or lines n no_line).at + k + m * (get_or lines n no_line).step
+row_before rows cols reach angles lines m n k k' are read e h turn =
+    let p : ℕ → ℤ = direction_of rows angles in
+    let w : ℕ = width_of cols reach in
+    let next : suc m ≡ n = omega arith in
+    let P : ℕ → Type 0 = λ x. x < rows → k + turn_of p 16 rows x ≡ k' + turn_of p 16 rows m → row_start (p x) rows x + k ≡ row_start (p x) rows m + k' in
+    let line : row_start (p n) rows n + k ≡ row_start (p n) rows m + k' = (subst P next (λ h t. on_line p rows m k k' (are.small (rows - 1 - suc m) (omega arith)) h t)) h turn in
+    let at = line_at (get_or lines n no_line).at reach (offset (p n) rows) (row_start (p n) rows n) k (read.ats n h) in
+    let near : unsigned_abs (p n) ≤ reach = are.near (rows - 1 - n) (omega arith) in
+    let place = same_place (p n) w reach rows (row_start (p n) rows n + k) m (omega arith) (are.reaches (rows - 1 - n) (omega arith)) (omega arith) in
+    sym
+    (ap (λ x. x + m * (get_or lines n no_line).step) at ∙ ap (λ x. reach - offset (p n) rows + (row_start (p n) rows n + k) + m * x) (read.steps n h) ∙ place
+    ∙ ap (λ x. m * w + x) (column (row_start (p n) rows n) (row_start (p n) rows m) k k' line))
+  where
+    column : (s s' k k' : ℕ) → s + k ≡ s' + k' → reach + (s + k) - s' ≡ reach + k'
+    column s s' k k' e = omega arith

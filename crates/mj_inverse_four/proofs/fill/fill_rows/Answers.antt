@@ -1,4 +1,4 @@
-use Rattle.std.proofs.Common.{arith, ◌≡◌, ◌<◌, ◌≤◌, ◌+◌, ◌*◌, ◌-◌, ℕ, ℤ, List, length, get_or, ap, ◌∙◌, subst}
+use Rattle.std.proofs.Common.{arith, ◌≡◌, ◌+◌, ◌*◌, ◌-◌, ℕ, length, get_or, ap, ◌∙◌, subst}
 use Rattle.mj_angles.specs.Projection.{bins, row_start}
 use Rattle.mj_inverse_four.specs.Rows.{AreBins, angle_at, direction_of}
 use Rattle.mj_inverse_four.specs.Starts.{block_of}

@@ -1,5 +1,5 @@
-use Rattle.std.proofs.Common.{arith, ◌≡◌, ◌<◌, ◌+◌, ◌*◌, ◌∙◌, ℕ, get_or, sym, subst}
-use Rattle.rz_words.specs.Grid.{grid_of, Grid}
+use Rattle.std.proofs.Common.{arith, ◌≡◌, ◌+◌, ◌*◌, ◌∙◌, ℕ, get_or, sym, subst}
+use Rattle.rz_words.specs.Grid.{grid_of}
 use Rattle.mj_inverse.specs.Fits.{IsFound}
 use Rattle.mj_inverse_four.specs.Rows.{direction_of, inner, width_of}
 use Rattle.mj_inverse_four.specs.One.{fourfold}

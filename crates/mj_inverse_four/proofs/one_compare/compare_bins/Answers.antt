@@ -1,4 +1,4 @@
-use Rattle.std.proofs.Common.{arith, ◌≡◌, ◌<◌, ◌+◌, ◌*◌, ◌-◌, ℕ, ℤ, get_or, sym, ap, ◌∙◌, ◌≤◌, ◌⊎◌, inl, inr, subst, lit<}
+use Rattle.std.proofs.Common.{arith, ◌≡◌, ◌<◌, ◌+◌, ◌-◌, ℕ, ℤ, get_or, sym, ap, ◌∙◌, ◌≤◌, ◌⊎◌, inl, inr, subst, lit<}
 use Rattle.std.proofs.lemmas.Bool.{cases_lt}
 use Rattle.mj_angles.specs.Projection.{bins, bin, offset}
 use Rattle.mj_inverse_four.specs.Rows.{inner, step_of, width_of}

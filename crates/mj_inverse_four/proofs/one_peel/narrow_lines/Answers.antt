@@ -1,4 +1,4 @@
-use Rattle.std.proofs.Common.{arith, refl, ◌≡◌, ◌<◌, ◌≤◌, ◌≢◌, ◌+◌, ℕ, length, ap, below_more, get_or-set_same, get_or-set_other}
+use Rattle.std.proofs.Common.{arith, refl, ◌<◌, ◌≢◌, ℕ, length, ap, below_more, get_or-set_same, get_or-set_other}
 use Rattle.mj_inverse_four.specs.One.{narrow}
 use Rattle.mj_inverse_four.proofs.one_peel.narrow_lines.Goals as goal
 
