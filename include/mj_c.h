@@ -95,9 +95,8 @@ uint32_t mj_c_solve(uint32_t layout, const uint32_t *positions, size_t count, co
                     size_t all, uint64_t *out, size_t words);
 
 /* Writes as many blocks as `out` has room for, one after the other. `bins` has the projections of the
- * first block, then those of the second, and so on. Room is taken once for all blocks. After
- * MJ_C_INCONSISTENT, which says that some block has no words, `out` holds any words; anything else but
- * MJ_C_DONE leaves it as it was. */
+ * first block, then those of the second, and so on. After MJ_C_INCONSISTENT, which says that some block has
+ * no words, `out` holds any words; anything else but MJ_C_DONE leaves it as it was. */
 uint32_t mj_c_solve_many(uint32_t layout, const uint32_t *positions, size_t count,
                          const uint64_t *bins, size_t all, uint64_t *out, size_t words);
 
