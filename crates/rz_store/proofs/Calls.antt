@@ -37,154 +37,10 @@ use Rattle.rz_store.specs.declared.faults.NameFault.{NameFault}
 use Rattle.rz_store.specs.declared.faults.NameFault.TheVariants as unnamed
 use Rattle.rz_store.specs.Causes.{IsNameCause}
 use Rattle.rz_store.specs.Store.{StoreView, LooksSame}
-use Rattle.rz_store.proofs.Wholes.{same-then, view, whole, come-log, come-legal, quiet-same}
+use Rattle.rz_store.proofs.Looks.{same-then}
+use Rattle.rz_store.proofs.Wholes.{view, whole, come-log, come-legal, quiet-same}
+use Rattle.rz_store.proofs.Replies.{HasReplied, Refused, Answered, replied, refused-same, asks-same, IsChangeAnswer, changing, IsAskAnswer, asking, made-created, made-plain}
 use Rattle.rz_store.specs.Names.{Replies, made_by, HasChanged, change_told, HasAsked, answer_told, ask_told, IsAskTold, asks_export}
-
--- The names refuse a call, or they answer it.
-
-pub data HasReplied (s : ExportState) (q : TreeCall) (told : TreeReply) : Type 0 where
-  Refused : (f : TreeFault) → refusal s.tree q ≡ Some f → told ≡ r.Refused f → HasReplied s q told
-  Answered : refusal s.tree q ≡ None → told ≡ answer_to s.tree (new_places s).cid (new_places s).places q → HasReplied s q told
-
-pub replied : (s : ExportState) (q : TreeCall) (told : TreeReply) → told ≡ names_reply s q → HasReplied s q told
-replied s q told is = go (refusal s.tree q) refl is
-  where
-    go : (o : Option TreeFault) → refusal s.tree q ≡ o → told ≡ option_map_or r.Refused o (answer_to s.tree (new_places s).cid (new_places s).places q) → HasReplied s q told
-    go (Some f) refused same = Refused f refused same
-    go None refused same = Answered refused same
-
--- a refused call leaves the names as they were, and so does one that only asks
-refused-same : (t : Tree) (cid : ℕ) (places : List ℕ) (q : TreeCall) (f : TreeFault) → refusal t q ≡ Some f → tree_after t cid places q ≡ t
-refused-same t cid places q f is = rw is refl
-
-either-same : (t : Tree) (o : Option TreeFault) → option_map_or (λ (f : TreeFault). t) o t ≡ t
-either-same t None = refl
-either-same t (Some f) = refl
-
-asks-same : (t : Tree) (cid : ℕ) (places : List ℕ) (q : TreeCall) → only_asks q ≡ true → tree_after t cid places q ≡ t
-asks-same t cid places (c.Lookup path) is = either-same t (refusal t (c.Lookup path))
-asks-same t cid places (c.Getattr path) is = either-same t (refusal t (c.Getattr path))
-asks-same t cid places (c.Readlink path) is = either-same t (refusal t (c.Readlink path))
-asks-same t cid places (c.Readdir path) is = either-same t (refusal t (c.Readdir path))
-asks-same t cid places (c.OpenFile path) is = either-same t (refusal t (c.OpenFile path))
-asks-same t cid places (c.Rmdir path) is = cc
-asks-same t cid places (c.Mkdir path) is = cc
-asks-same t cid places (c.Create path) is = cc
-asks-same t cid places (c.Unlink path) is = cc
-asks-same t cid places (c.Setattr path mode mtime) is = cc
-asks-same t cid places (c.Rename path to) is = cc
-asks-same t cid places (c.Link path to) is = cc
-asks-same t cid places (c.Symlink target path) is = cc
-
--- What is told where something is looked for: it is there where the call is not refused.
-
-never : (a b : Option TreeFault) (f : TreeFault) (rest : Option TreeFault) → option_or a (option_or b (option_or (Some f) rest)) ≡ None → ⊥
-never None None f rest is = cc
-never None (Some b) f rest is = cc
-never (Some a) b f rest is = cc
-
--- the faults of a call begin so
-abbrev LooksFirst : Tree → List ℕ → TreeCall → Type 0
-LooksFirst t path q = (rest : List (Option TreeFault)) × (refusal t q ≡ first_of (unreadable path ∷ walk t (path_in path) ∷ given_if (is_none (found_at t (path_in path))) fault.NoEntry ∷ rest))
-
-finds : (t : Tree) (path : List ℕ) (q : TreeCall) → LooksFirst t path q → refusal t q ≡ None → found_at t (path_in path) ≡ None → ⊥
-finds t path q first opens none =
-    never (unreadable path) (walk t (path_in path)) fault.NoEntry (first_of first.0)
-    (sym (ap (λ (m : Option Found). first_of (unreadable path ∷ walk t (path_in path) ∷ given_if (is_none m) fault.NoEntry ∷ first.0)) none) ∙ sym first.1 ∙ opens)
-
-told-found : (t : Tree) (path : List ℕ) (q : TreeCall) (tell : Found → TreeReply) (told : TreeReply) → LooksFirst t path q → refusal t q ≡ None
-    → told ≡ option_map_or tell (found_at t (path_in path)) (r.Refused fault.NoEntry) → (f : Found) × (told ≡ tell f)
-told-found t path q tell told first opens is = go (found_at t (path_in path)) refl is
-  where
-    go : (m : Option Found) → found_at t (path_in path) ≡ m → told ≡ option_map_or tell m (r.Refused fault.NoEntry) → (f : Found) × (told ≡ tell f)
-    go None there same = absurd (finds t path q first opens there)
-    go (Some f) there same = (f, same)
-
--- Which replies there are.
-
-module _ (s : ExportState) (told : TreeReply) where
-  abbrev t : Tree
-  t = s.tree
-
-  looked : (path : List ℕ) → refusal t (c.Lookup path) ≡ None → told ≡ answer_to t (new_places s).cid (new_places s).places (c.Lookup path) → (f : Found) × (told ≡ r.Found f.fid f.object.kind)
-  looked path opens is = told-found t path (c.Lookup path) (λ f. r.Found f.fid f.object.kind) told ([], refl) opens is
-
-  attributes : (path : List ℕ) → refusal t (c.Getattr path) ≡ None → told ≡ answer_to t (new_places s).cid (new_places s).places (c.Getattr path) → (f : Found) × (told ≡ r.Attr (attr_of t f))
-  attributes path opens is = told-found t path (c.Getattr path) (λ f. r.Attr (attr_of t f)) told ([], refl) opens is
-
-  targets : (path : List ℕ) → refusal t (c.Readlink path) ≡ None → told ≡ answer_to t (new_places s).cid (new_places s).places (c.Readlink path) → (f : Found) × (told ≡ r.Target f.object.target)
-  targets path opens is = told-found t path (c.Readlink path) (λ f. r.Target f.object.target) told (not_link t (path_in path) ∷ [], refl) opens is
-
--- a call that changes names is answered so
-abbrev IsChangeAnswer : Answer → Type 0
-IsChangeAnswer (answer.Created fid) = Unit {0}
-IsChangeAnswer answer.Plain = Unit {0}
-IsChangeAnswer a = ⊥
-
-changing : (s : ExportState) (q : TreeCall) → only_asks q ≡ false → IsChangeAnswer (answer_for (answer_to s.tree (new_places s).cid (new_places s).places q))
-changing s (c.Rmdir path) is = tt
-changing s (c.Mkdir path) is = tt
-changing s (c.Create path) is = tt
-changing s (c.Unlink path) is = tt
-changing s (c.Setattr path mode mtime) is = tt
-changing s (c.Rename path to) is = tt
-changing s (c.Link path to) is = tt
-changing s (c.Symlink target path) is = tt
-changing s (c.Lookup path) is = cc
-changing s (c.Getattr path) is = cc
-changing s (c.Readlink path) is = cc
-changing s (c.Readdir path) is = cc
-changing s (c.OpenFile path) is = cc
-
--- one that only asks is answered so
-abbrev IsAskAnswer : Answer → Type 0
-IsAskAnswer (answer.Found kind fid) = Unit {0}
-IsAskAnswer (answer.Attr attr) = Unit {0}
-IsAskAnswer (answer.Names names) = Unit {0}
-IsAskAnswer (answer.Target target) = Unit {0}
-IsAskAnswer a = ⊥
-
-asking : (s : ExportState) (q : TreeCall) (told : TreeReply) → only_asks q ≡ true → opens_file q ≡ false → refusal s.tree q ≡ None → told ≡ answer_to s.tree (new_places s).cid (new_places s).places q
-    → IsAskAnswer (answer_for told)
-asking s (c.Lookup path) told is shut opens same = (let found = looked s told path opens same in subst (λ (z : TreeReply). IsAskAnswer (answer_for z)) (sym found.1) tt)
-asking s (c.Getattr path) told is shut opens same = (let found = attributes s told path opens same in subst (λ (z : TreeReply). IsAskAnswer (answer_for z)) (sym found.1) tt)
-asking s (c.Readlink path) told is shut opens same = (let found = targets s told path opens same in subst (λ (z : TreeReply). IsAskAnswer (answer_for z)) (sym found.1) tt)
-asking s (c.Readdir path) told is shut opens same = subst (λ (z : TreeReply). IsAskAnswer (answer_for z)) (sym same) tt
-asking s (c.OpenFile path) told is shut opens same = cc
-asking s (c.Rmdir path) told is shut opens same = cc
-asking s (c.Mkdir path) told is shut opens same = cc
-asking s (c.Create path) told is shut opens same = cc
-asking s (c.Unlink path) told is shut opens same = cc
-asking s (c.Setattr path mode mtime) told is shut opens same = cc
-asking s (c.Rename path to) told is shut opens same = cc
-asking s (c.Link path to) told is shut opens same = cc
-asking s (c.Symlink target path) told is shut opens same = cc
-
--- What was made, by the answer.
-
-made-created : (told : TreeReply) (fid : ℕ) → answer_for told ≡ answer.Created fid → made_by told ≡ Ok (Some fid)
-made-created (r.Made n) fid is = cc
-made-created (r.MadeFile info) fid is = cc
-made-created (r.Found n kind) fid is = cc
-made-created (r.Attr attr) fid is = cc
-made-created (r.Names names) fid is = cc
-made-created (r.Target target) fid is = cc
-made-created (r.Refused f) fid is = cc
-made-created r.Plain fid is = cc
-made-created (r.Gone gone) fid is = cc
-made-created (r.File info) fid is = cc
-
-made-plain : (told : TreeReply) → answer_for told ≡ answer.Plain → made_by told ≡ Ok None
-made-plain (r.Made n) is = cc
-made-plain (r.MadeFile info) is = cc
-made-plain (r.Found n kind) is = cc
-made-plain (r.Attr attr) is = cc
-made-plain (r.Names names) is = cc
-made-plain (r.Target target) is = cc
-made-plain (r.Refused f) is = cc
-made-plain r.Plain is = refl
-made-plain (r.Gone gone) is = refl
-made-plain (r.File info) is = refl
 
 module _ (v : Volume) (before after : List Event) (q : TreeCall) where
   abbrev s : ExportState
@@ -248,17 +104,17 @@ module _ (v : Volume) (before after : List Event) (q : TreeCall) where
   ask-refusal : (a : Answer) (told : TreeReply) → answer_for told ≡ a → (f : TreeFault) → refusal s.tree q ≡ Some f → told ≡ r.Refused f → AskTells (answer_told a)
   ask-refusal a told same f refused told-is = subst (λ (b : Answer). AskTells (answer_told b)) (sym (ap answer_for told-is) ∙ same) refused
 
-  ask-answer : (a : Answer) (told : TreeReply) → told ≡ names_reply s q → answer_for told ≡ a → IsAskAnswer a → AskTells (answer_told a)
-  ask-answer (answer.Found kind fid) told is same ok = (told, is, same)
-  ask-answer (answer.Attr attr) told is same ok = (told, is, same)
-  ask-answer (answer.Names names) told is same ok = (told, is, same)
-  ask-answer (answer.Target target) told is same ok = (told, is, same)
-  ask-answer (_) told is same ok = absurd ok
+  ask-answer : (a : Answer) (told : TreeReply) → told ≡ names_reply s q → refusal s.tree q ≡ None → answer_for told ≡ a → IsAskAnswer a → AskTells (answer_told a)
+  ask-answer (answer.Found kind fid) told is opens same ok = record { told = told; replies = is; opens = opens; answers = same }
+  ask-answer (answer.Attr attr) told is opens same ok = record { told = told; replies = is; opens = opens; answers = same }
+  ask-answer (answer.Names names) told is opens same ok = record { told = told; replies = is; opens = opens; answers = same }
+  ask-answer (answer.Target target) told is opens same ok = record { told = told; replies = is; opens = opens; answers = same }
+  ask-answer (_) told is opens same ok = absurd ok
 
   ask-ended : only_asks q ≡ true → opens_file q ≡ false → (a : Answer) (told : TreeReply) → told ≡ names_reply s q → answer_for told ≡ a → AskTells (answer_told a)
   ask-ended asks shut a told is same = elim (replied s q told is) [
     | Refused f refused told-is ↦ ask-refusal a told same f refused told-is
-    | Answered opens told-is ↦ ask-answer a told is same (subst IsAskAnswer same (asking s q told asks shut opens told-is))
+    | Answered opens told-is ↦ ask-answer a told is opens same (subst IsAskAnswer same (asking s q told asks shut opens told-is))
   ]
 
   asked : only_asks q ≡ true → opens_file q ≡ false → (work : Work) → IsCallSeen v before q after work → is_word (ask_of v.layout work) ≡ true → AskTells (ask_told (ask_of v.layout work))

@@ -37,18 +37,19 @@ use Rattle.rz_export_model.specs.Export.{file_blocks}
 use Rattle.rz_operation.specs.Machine.{Machine, text_of}
 use Rattle.rz_chronicle.specs.Kinds.{keeps_legal, volume_in}
 use Rattle.rz_contents.specs.Contents.{TellsContents}
-use Rattle.rz_contents.specs.Model.{model_of, IsSame, StaysStill, changes}
+use Rattle.rz_contents.specs.Model.{model_of, IsSame, StaysStill}
 use Rattle.rz_contents.specs.Getting.{IsGetAlone}
 use Rattle.rz_contents.specs.Files.{is_word, key_in, IsSilentCourse, IsBlockAt, IsOnBlock, IsOpenRefused, LeadsToBlock, IsGetSeen, IsGetWatched}
 use Rattle.rz_contents.specs.Causes.{IsReadCaused, AreGetsCaused}
 use Rattle.rz_contents.proofs.Opened.{loud}
 use Rattle.rz_store_turns.specs.Sole.{SoleView, IsInHand}
-use Rattle.rz_store_turns.specs.Performed.{HasCome, HasSaid}
+use Rattle.rz_store_turns.specs.Performed.{HasCome, HasSaid, IsQuiet}
 use Rattle.rz_store.specs.declared.faults.ReadFault.{ReadFault}
 use Rattle.rz_store.specs.Outcomes.{read_denied, told_by, get_told, IsGetTold}
 use Rattle.rz_store.specs.Causes.{IsReadCause}
-use Rattle.rz_store.specs.Store.{StoreView, IsGot, LooksSame}
-use Rattle.rz_store.proofs.Wholes.{same-then, same-log, view, whole, come-log, come-legal}
+use Rattle.rz_store.specs.Store.{StoreView, HasGot, LooksSame}
+use Rattle.rz_store.proofs.Looks.{same-then}
+use Rattle.rz_store.proofs.Wholes.{view, whole, come-log, come-legal, quiet-same}
 
 -- The text that the machine has is that of the event.
 
@@ -71,7 +72,7 @@ module _ (v : Volume) (alone : IsGetAlone v) (caused : AreGetsCaused v) (old xs 
 
   -- what it tells is there, and a fault is so
   abbrev pub GetTells : Result (Option (List ℕ)) ReadFault → Type 0
-  GetTells (Ok text) = IsGot s-old path block text
+  GetTells (Ok text) = HasGot s-old path block text
   GetTells (Err f) = IsReadCause s-old path block f
 
   denied : (key : Key) (why : Denial) → key.block ≡ block → IsReadCaused v old key (mark.Denied why) → IsReadCause s-old path block (read_denied why)
@@ -149,13 +150,6 @@ seen-same v old now (Reading course s) seen = seen
 seen-same v old now (Ending a) seen = seen
 seen-same v old now (_) seen = absurd seen
 
--- a word changes nothing that users see
-unsaid : (by : Actor) (number : ℕ) (text : List ℕ) (saying : Saying) → changes (said_event by number text saying) ≡ false
-unsaid by number text (SayGot key part m) = refl
-unsaid by number text (SayGave key part end) = refl
-unsaid by number text (SayLeft key why) = refl
-unsaid by number text (SayDone a) = refl
-
 module _ (kind : List ℕ) (earlier : List Event) (path : List ℕ) (block : ℕ) (watched : IsGetWatched (volume_in kind)) where
   abbrev v : Volume
   v = volume_in kind
@@ -174,20 +168,10 @@ module _ (kind : List ℕ) (earlier : List Event) (path : List ℕ) (block : ℕ
     get-came = subst (λ (h : List Event). IsSame (model_of v (whole kind earlier old)) (model_of v h)) (sym (come-log kind earlier op old new m.work come))
         (seen-same v (whole kind earlier old) (come.events ++ whole kind earlier old) m.work seen)
 
-    module _ (word : is_word (ask_of m.layout m.work) ≡ true) (last : SoleView) (said : (saying : Saying) → ask_of m.layout m.work ≡ Say saying → HasSaid kind earlier new last m saying) where
-      pub get-same : StaysStill v → LooksSame (view kind earlier old) (view kind earlier last)
-      get-same still = go (ask_of m.layout m.work) refl word
-        where
-          go : (asked : Ask) → ask_of m.layout m.work ≡ asked → is_word asked ≡ true → LooksSame (view kind earlier old) (view kind earlier last)
-          go (Say saying) is so =
-              let s = said saying is in
-              let x : Event = said_event by new.number s.text saying in
-              let log-is : whole kind earlier last ≡ x ∷ whole kind earlier new = ap (λ (h : List Event). h ++ earlier) s.log in
-              let step = still (x ∷ []) (whole kind earlier new) (subst (IsLegalInRuns v) log-is (s.legal keeps)) (unsaid by new.number s.text saying, tt) in
-              same-then (model_of v (whole kind earlier old)) (model_of v (whole kind earlier new)) (model_of v (whole kind earlier last)) get-came
-              (subst (λ (h : List Event). IsSame (model_of v (whole kind earlier new)) (model_of v h)) (sym log-is) step)
-          go (_) is so = cc
+    pub get-same : StaysStill v → (last : SoleView) → IsQuiet kind earlier new last → LooksSame (view kind earlier old) (view kind earlier last)
+    get-same still last quiet = same-then (model_of v (whole kind earlier old)) (model_of v (whole kind earlier new)) (model_of v (whole kind earlier last)) get-came (quiet-same kind earlier still new last quiet keeps)
 
+    module _ (word : is_word (ask_of m.layout m.work) ≡ true) (last : SoleView) (said : (saying : Saying) → ask_of m.layout m.work ≡ Say saying → HasSaid kind earlier new last m saying) where
       pub get-says : LeadsToBlock v → IsGetAlone v → AreGetsCaused v → (told : Result (Option (List ℕ)) ReadFault) → IsGetTold (text_of m) (ask_of m.layout m.work) told
           → GetTells v alone caused (whole kind earlier old) come.events by new.number path block (text_of m) told
       get-says leads alone caused told is =

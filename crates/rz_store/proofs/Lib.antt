@@ -1,5 +1,11 @@
 pub mod Wholes
+pub mod Looks
 pub mod Puts
 pub mod Gets
+pub mod Replies
 pub mod Calls
 pub mod Cuts
+pub mod Grown
+pub mod Opens
+pub mod Writing
+pub mod Reading

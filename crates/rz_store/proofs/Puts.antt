@@ -1,6 +1,6 @@
 -- What a put tells, and what it has made of the store.
 use Rattle.std.proofs.Common.{ℕ, Bool, true, false, ◌≡◌, ◌<◌, ◌≤◌, ◌-◌, List, ◌∷◌, ◌++◌, Option, Some, None, cond, nat_lt, refl, sym, ◌∙◌, ap, subst}
-use Rattle.std.specs.Prelude.{IsTrue, slice_index, count_by}
+use Rattle.std.specs.Prelude.{IsTrue, slice_index, count_by, Result, Ok, Err, OnOk, OnErr, IfErr}
 use Rattle.mj_angles.specs.declared.layout.Layout.{Layout}
 use Rattle.mj_angles.specs.Layout.{forward_of, safe_of}
 use Rattle.rz_events.specs.Volume.{Volume}
@@ -39,9 +39,10 @@ use Rattle.rz_store_turns.specs.Sole.{SoleView, IsInHand}
 use Rattle.rz_store_turns.specs.Performed.{HasCome, IsQuiet}
 use Rattle.rz_store.specs.Causes.{IsWriteCause}
 use Rattle.rz_store.specs.declared.faults.WriteFault.{WriteFault}
-use Rattle.rz_store.specs.Outcomes.{write_denied, fault_of, put_fault}
-use Rattle.rz_store.specs.Store.{StoreView, IsPut, LooksSame}
-use Rattle.rz_store.proofs.Wholes.{same-then, view, whole, come-log, come-legal, quiet-same}
+use Rattle.rz_store.specs.Outcomes.{write_denied, end_told, put_told}
+use Rattle.rz_store.specs.Store.{StoreView, HasPut, LooksSame}
+use Rattle.rz_store.proofs.Looks.{same-then}
+use Rattle.rz_store.proofs.Wholes.{view, whole, come-log, come-legal, quiet-same}
 
 -- more positions failed than the layout has to spare
 abbrev IsManyIf : Volume → WriteEnd → Type 0
@@ -88,10 +89,10 @@ module _ (v : Volume) (before after : List Event) (text path : List ℕ) (block 
   abbrev s-new : StoreView
   s-new = record { volume = v; log = after }
 
-  -- it tells no fault exactly where it was done
-  abbrev pub PutTells : Option WriteFault → Type 0
-  PutTells None = IsPut s-old path block text s-new
-  PutTells (Some f) = IsSame old now × IsWriteCause s-old path block f
+  -- it tells that it was done exactly where it was
+  abbrev pub PutTells : Result (Unit {0}) WriteFault → Type 0
+  PutTells (Ok u) = HasPut s-old path block text s-new
+  PutTells (Err f) = IsSame old now × IsWriteCause s-old path block f
 
   denied : (key : Key) (why : Denial) → key.block ≡ block → IsWriteDenied before key why → IsWriteCause s-old path block (write_denied why)
   denied key denial.BlockTooFar is caused = subst (λ (n : ℕ). file_blocks ≤ n) is caused
@@ -99,7 +100,7 @@ module _ (v : Volume) (before after : List Event) (text path : List ℕ) (block 
   denied key (_) is caused = absurd caused
 
   ended : (key : Key) (end : WriteEnd) → IsBlockAt old.names path block key → IsSame (model_put v.layout end key text old) now → IsWriteCaused before key (writing.Ended end) → IsManyIf v end
-      → PutTells (fault_of end)
+      → PutTells (end_told end)
   ended key (write.Acked stamp mask) at same caused many = record {
     file = at.file;
     at = at.at;
@@ -125,7 +126,7 @@ module _ (v : Volume) (before after : List Event) (text path : List ℕ) (block 
 
     stage-told : (stage : WriteStage) → IsPutStageSeen v old text now key stage → IsBlockAt old.names path block key → IsWriteCaused before key stage → IsManyAt v stage
         → is_word (write_asks (is_part course) written (at stage) (writer_ask (at stage))) ≡ true
-        → PutTells (put_fault (write_asks (is_part course) written (at stage) (writer_ask (at stage))))
+        → PutTells (put_told (write_asks (is_part course) written (at stage) (writer_ask (at stage))))
     stage-told writing.Beginning seen on caused many word = cc
     stage-told (writing.Sending t) seen on caused many word = absurd (wordless t word)
     stage-told (writing.Ended end) seen on caused many word = ended key end on seen caused many
@@ -135,12 +136,12 @@ module _ (v : Volume) (before after : List Event) (text path : List ℕ) (block 
     stage-stopped (writing.Sending t) seen quiet = seen
     stage-stopped (writing.Ended end) seen quiet = cc
 
-  answered : (a : Answer) → IsSame old now → IsOpenRefused old.names path a → PutTells (put_fault (Say (SayDone a)))
+  answered : (a : Answer) → IsSame old now → IsOpenRefused old.names path a → PutTells (put_told (Say (SayDone a)))
   answered (answer.Refused f) same refused = (same, refused)
   answered (_) same refused = absurd refused
 
   put-told : (work : Work) → IsPutSeen v old text now work → IsOnBlock old.names path block work → IsPutCaused before work → IsManyIn v work → is_word (ask_of v.layout work) ≡ true
-      → PutTells (put_fault (ask_of v.layout work))
+      → PutTells (put_told (ask_of v.layout work))
   put-told (Opening p plan) seen on caused many word = cc
   put-told (Writing course written s) seen on caused many word = stage-told course written s.layout s.key s.places s.length s.stage seen on.1 caused many word
   put-told (Ending a) seen on caused many word = answered a seen on
@@ -152,18 +153,33 @@ module _ (v : Volume) (before after : List Event) (text path : List ℕ) (block 
   put-stopped (Ending a) seen quiet = seen
   put-stopped (_) seen quiet = absurd seen
 
+pub put-done : (v : Volume) (before after : List Event) (text path : List ℕ) (block : ℕ) (o : Result (Unit {0}) WriteFault) → PutTells v before after text path block o
+    → OnOk o (HasPut (record { volume = v; log = before }) path block text (record { volume = v; log = after }))
+put-done v before after text path block (Ok u) is = is
+put-done v before after text path block (Err f) is = tt
+
+pub put-undone : (v : Volume) (before after : List Event) (text path : List ℕ) (block : ℕ) (o : Result (Unit {0}) WriteFault) → PutTells v before after text path block o
+    → OnErr o (LooksSame (record { volume = v; log = before }) (record { volume = v; log = after }))
+put-undone v before after text path block (Ok u) is = tt
+put-undone v before after text path block (Err f) is = is.0
+
+pub put-cause : (v : Volume) (before after : List Event) (text path : List ℕ) (block : ℕ) (o : Result (Unit {0}) WriteFault) → PutTells v before after text path block o
+    → IfErr o (λ f. IsWriteCause (record { volume = v; log = before }) path block f)
+put-cause v before after text path block (Ok u) is = tt
+put-cause v before after text path block (Err f) is = is.1
+
 -- What users see then changes no more.
 
-then-tells : (v : Volume) (before mid after : List Event) (text path : List ℕ) (block : ℕ) (o : Option WriteFault) → IsSame (model_of v mid) (model_of v after)
+then-tells : (v : Volume) (before mid after : List Event) (text path : List ℕ) (block : ℕ) (o : Result (Unit {0}) WriteFault) → IsSame (model_of v mid) (model_of v after)
     → PutTells v before mid text path block o → PutTells v before after text path block o
-then-tells v before mid after text path block None same is = record {
+then-tells v before mid after text path block (Ok u) same is = record {
   file = is.file;
   at = is.at;
   stamp = is.stamp;
   mask = is.mask;
   put = same-then (model_put v.layout (write.Acked is.stamp is.mask) (key_in is.file block) text (model_of v before)) (model_of v mid) (model_of v after) is.put same;
 }
-then-tells v before mid after text path block (Some f) same is = (same-then (model_of v before) (model_of v mid) (model_of v after) is.0 same, is.1)
+then-tells v before mid after text path block (Err f) same is = (same-then (model_of v before) (model_of v mid) (model_of v after) is.0 same, is.1)
 
 module _ (kind : List ℕ) (earlier : List Event) (path text : List ℕ) (block : ℕ) (leads : LeadsToBlock (volume_in kind)) (watched : IsPutWatched (volume_in kind)) where
   abbrev v : Volume
@@ -185,7 +201,7 @@ module _ (kind : List ℕ) (earlier : List Event) (path text : List ℕ) (block 
         put-stopped v (whole kind earlier old) (whole kind earlier new) text path block m.work seen (subst (λ (y : Layout). is_word (ask_of y m.work) ≡ false) hand.layout quiet)
 
     pub put-says : ArePutsCaused v → StaysStill v → (last : SoleView) → is_word (ask_of m.layout m.work) ≡ true → IsQuiet kind earlier new last
-        → PutTells v (whole kind earlier old) (whole kind earlier last) text path block (put_fault (ask_of m.layout m.work))
+        → PutTells v (whole kind earlier old) (whole kind earlier last) text path block (put_told (ask_of m.layout m.work))
     put-says caused still last word quiet =
         let legal = come-legal kind earlier op old new m.work come keeps in
         let on = leads (whole kind earlier old) come.events by new.number path (PutBlock block text) m.work legal (come.course keeps) in
@@ -193,7 +209,7 @@ module _ (kind : List ℕ) (earlier : List Event) (path text : List ℕ) (block 
         let h : List Event = new.pass.log in
         let many = many-in v (facts (h ++ earlier)) (of_actor by (h ++ earlier)) (of_actor by h) by m.work (hand.right keeps).true_to.own in
         let word-there = subst (λ (y : Layout). is_word (ask_of y m.work) ≡ true) hand.layout word in
-        subst (λ (y : Layout). PutTells v (whole kind earlier old) (whole kind earlier last) text path block (put_fault (ask_of y m.work))) (sym hand.layout)
-        (then-tells v (whole kind earlier old) (whole kind earlier new) (whole kind earlier last) text path block (put_fault (ask_of v.layout m.work))
+        subst (λ (y : Layout). PutTells v (whole kind earlier old) (whole kind earlier last) text path block (put_told (ask_of y m.work))) (sym hand.layout)
+        (then-tells v (whole kind earlier old) (whole kind earlier new) (whole kind earlier last) text path block (put_told (ask_of v.layout m.work))
         (quiet-same kind earlier still new last quiet keeps)
         (put-told v (whole kind earlier old) (whole kind earlier new) text path block m.work seen on cause many word-there))

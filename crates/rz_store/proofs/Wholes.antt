@@ -1,29 +1,23 @@
 -- The log of all runs, which has that of this run on top of the earlier one, after an operation.
-use Rattle.std.proofs.Common.{ℕ, ◌≡◌, List, ◌∷◌, ◌++◌, refl, sym, ◌∙◌, ap, subst, append_assoc}
+use Rattle.std.proofs.Common.{ℕ, true, false, ◌≡◌, List, [], ◌∷◌, ◌++◌, Option, Some, None, refl, sym, ◌∙◌, ap, subst, append_assoc}
 use Rattle.std.specs.Prelude.{IsTrue}
 use Rattle.rz_events.specs.Volume.{Volume}
-use Rattle.rz_events.specs.declared.keys.Key.{Key}
 use Rattle.rz_events.specs.declared.operations.Operation.{Operation}
 use Rattle.rz_events.specs.declared.events.Event.{Event}
+use Rattle.rz_operation_model.specs.Ask.{Ask}
 use Rattle.rz_operation_model.specs.Work.{Work}
 use Rattle.rz_operation_model.specs.Steps.{begun}
 use Rattle.rz_core.specs.Legal.{IsLegalInRuns}
 use Rattle.rz_chronicle.specs.Kinds.{keeps_legal, volume_in}
-use Rattle.rz_contents.specs.Model.{Model, model_of, IsSame, StaysStill}
-use Rattle.rz_contents.specs.Files.{IsSilentCourse}
+use Rattle.rz_contents.specs.Model.{model_of, IsSame, StaysStill}
+use Rattle.rz_contents.specs.Files.{is_word}
 use Rattle.rz_store_turns.specs.Sole.{SoleView}
-use Rattle.rz_store_turns.specs.Performed.{HasCome, IsQuiet}
+use Rattle.rz_chronicle.specs.Rules.{PassView}
+use Rattle.rz_store_turns.specs.declared.sole.Stop.{Stop}
+use Rattle.rz_store_turns.specs.Performed.{HasCome, IsAtWord, IsQuiet}
+use Rattle.rz_chronicle.specs.Keys.{IsLater}
 use Rattle.rz_store.specs.Store.{StoreView}
-
--- what users see stays so where it is so twice
-pub same-self : (a : Model) → IsSame a a
-same-self a = record { names = refl; blocks = λ key. refl }
-
-pub same-then : (a b c : Model) → IsSame a b → IsSame b c → IsSame a c
-same-then a b c ab bc = record { names = bc.names ∙ ab.names; blocks = λ key. bc.blocks key ∙ ab.blocks key }
-
-pub same-back : (a b : Model) → IsSame a b → IsSame b a
-same-back a b ab = record { names = sym ab.names; blocks = λ key. sym (ab.blocks key) }
+use Rattle.rz_store.proofs.Looks.{same-self}
 
 module _ (kind : List ℕ) (earlier : List Event) where
   abbrev v : Volume
@@ -39,6 +33,9 @@ module _ (kind : List ℕ) (earlier : List Event) where
   -- nothing was added
   pub same-log : (old new : SoleView) → new.pass.log ≡ old.pass.log → IsSame (model_of v (whole old)) (model_of v (whole new))
   same-log old new is = subst (λ (h : List Event). IsSame (model_of v (whole old)) (model_of v (h ++ earlier))) (sym is) (same-self (model_of v (whole old)))
+
+  pub log-later : (old new : SoleView) → new.pass.log ≡ old.pass.log → IsLater (whole old) (whole new)
+  log-later old new is = ([], ap (λ (h : List Event). h ++ earlier) is)
 
   -- Events were added.
 
@@ -56,3 +53,25 @@ module _ (kind : List ℕ) (earlier : List Event) where
       let is : whole new ≡ quiet.events ++ whole old = ap (λ (h : List Event). h ++ earlier) (quiet.log keeps) ∙ append_assoc quiet.events old.pass.log earlier in
       subst (λ (h : List Event). IsSame (model_of v (whole old)) (model_of v h)) (sym is)
       (still quiet.events (whole old) (subst (IsLegalInRuns v) is (quiet.legal keeps)) quiet.still)
+
+  pub come-later : (op : Operation) (old new : SoleView) (work : Work) → HasCome kind earlier op old new work → IsLater (whole old) (whole new)
+  come-later op old new work come = (come.events, come-log op old new work come)
+
+  pub quiet-later : (old new : SoleView) → IsQuiet kind earlier old new → IsTrue (keeps_legal kind) → IsLater (whole old) (whole new)
+  quiet-later old new quiet keeps = (quiet.events, ap (λ (h : List Event). h ++ earlier) (quiet.log keeps) ∙ append_assoc quiet.events old.pass.log earlier)
+
+  -- The operation was let go.
+
+  pub ended-same : (old new last : SoleView) → last.pass ≡ new.pass → IsSame (model_of v (whole old)) (model_of v (whole new)) → IsSame (model_of v (whole old)) (model_of v (whole last))
+  ended-same old new last is same = subst (λ (p : PassView). IsSame (model_of v (whole old)) (model_of v (p.log ++ earlier))) (sym is) same
+
+  pub ended-later : (old new last : SoleView) → last.pass ≡ new.pass → IsLater (whole old) (whole new) → IsLater (whole old) (whole last)
+  ended-later old new last is later = subst (λ (p : PassView). IsLater (whole old) (p.log ++ earlier)) (sym is) later
+
+-- What the operation has come to.
+
+pub at-word : (o : Option Stop) (a : Ask) → o ≡ None → IsAtWord o a → is_word a ≡ true
+at-word o a is at = subst (λ (p : Option Stop). IsAtWord p a) is at
+
+pub before-word : (o : Option Stop) (why : Stop) (a : Ask) → o ≡ Some why → IsAtWord o a → is_word a ≡ false
+before-word o why a is at = subst (λ (p : Option Stop). IsAtWord p a) is at

@@ -6,6 +6,7 @@ use Rattle.rz_events.specs.declared.tree.TreeReply.TheVariants as reply
 use Rattle.rz_events.specs.declared.tree.TreeFault.{TreeFault}
 use Rattle.rz_events.specs.declared.events.Answer.{Answer}
 use Rattle.rz_events.specs.declared.events.Answer.TheVariants as answer
+use Rattle.rz_export_model.specs.Refusals.{refusal}
 use Rattle.rz_operation_model.specs.Ask.{Ask, AskExport, AskNode, Say, SayDone}
 use Rattle.rz_core.specs.ExportRows.{names_reply}
 use Rattle.rz_contents.specs.Model.{export_at}
@@ -13,7 +14,7 @@ use Rattle.rz_contents.specs.Files.{answer_for}
 use Rattle.rz_store_turns.specs.declared.sole.Stop.TheVariants as stop
 use Rattle.rz_store.specs.declared.faults.NameFault.{NameFault}
 use Rattle.rz_store.specs.declared.faults.NameFault.TheVariants as fault
-use Rattle.rz_store.specs.Store.{StoreView, IsCalled}
+use Rattle.rz_store.specs.Store.{StoreView, IsCalled, model_in}
 
 -- the names reply so to the call
 abbrev pub Replies : StoreView → TreeCall → TreeReply → Type 0
@@ -46,8 +47,12 @@ asks_export asked = false
 
 -- Calls that only ask.
 
-abbrev pub HasAsked : StoreView → TreeCall → Answer → Type 0
-HasAsked old c a = (told : TreeReply) × Replies old c told × (answer_for told ≡ a)
+-- the names do not refuse the call, and this answers it
+pub record HasAsked (old : StoreView) (c : TreeCall) (a : Answer) : Type 0 where
+  pub told : TreeReply
+  pub replies : Replies old c told
+  pub opens : refusal (model_in old).names c ≡ None
+  pub answers : answer_for told ≡ a
 
 -- what an operation tells that is about to answer
 abbrev pub answer_told : Answer → Result Answer NameFault

@@ -15,23 +15,23 @@ use Rattle.rz_store.specs.declared.faults.ReadFault.TheVariants as unread
 use Rattle.rz_store.specs.declared.faults.WriteFault.{WriteFault}
 use Rattle.rz_store.specs.declared.faults.WriteFault.TheVariants as unwritten
 
--- A put: why the block is not written, or nothing where it is.
+-- A put: that the block is written, or why it is not.
 
 abbrev pub write_denied : Denial → WriteFault
 write_denied denial.BlockTooFar = unwritten.TooFar
 write_denied denial.StampsSpent = unwritten.StampsSpent
 write_denied _ = unwritten.Disturbed
 
-abbrev pub fault_of : WriteEnd → Option WriteFault
-fault_of (write.Acked stamp mask) = None
-fault_of (write.TooFew causes) = Some (unwritten.TooFew causes)
-fault_of (write.Denied why) = Some (write_denied why)
-fault_of (write.Revoked later) = Some unwritten.Disturbed
+abbrev pub end_told : WriteEnd → Result (Unit {0}) WriteFault
+end_told (write.Acked stamp mask) = Ok tt
+end_told (write.TooFew causes) = Err (unwritten.TooFew causes)
+end_told (write.Denied why) = Err (write_denied why)
+end_told (write.Revoked later) = Err unwritten.Disturbed
 
-abbrev pub put_fault : Ask → Option WriteFault
-put_fault (Say (SayGave key part end)) = fault_of end
-put_fault (Say (SayDone (answer.Refused f))) = Some (unwritten.Names f)
-put_fault asked = Some unwritten.Disturbed
+abbrev pub put_told : Ask → Result (Unit {0}) WriteFault
+put_told (Say (SayGave key part end)) = end_told end
+put_told (Say (SayDone (answer.Refused f))) = Err (unwritten.Names f)
+put_told asked = Err unwritten.Disturbed
 
 -- A get: what the block contains, or why it is not read.
 

@@ -1,11 +1,11 @@
 -- A store as its users see it, and what its calls make of it.
-use Rattle.std.specs.Prelude.{ℕ, zero, suc, ◌≡◌, ◌≤◌, ◌+◌, ◌-◌, IsTrue, List, take, length, min, nat_lt, cond, Option}
+use Rattle.std.specs.Prelude.{ℕ, ◌≡◌, ◌<◌, ◌≤◌, ◌+◌, ◌-◌, IsTrue, List, take, length, min, Option}
 use Rattle.rz_events.specs.Volume.{Volume}
 use Rattle.rz_events.specs.declared.ends.WriteEnd.TheVariants as write
 use Rattle.rz_events.specs.declared.tree.TreeCall.{TreeCall}
 use Rattle.rz_events.specs.declared.tree.TreeReply.{TreeReply}
 use Rattle.rz_events.specs.declared.events.Event.{Event}
-use Rattle.rz_export_model.specs.Tree.{Tree, Found, grown}
+use Rattle.rz_export_model.specs.Tree.{Found, grown}
 use Rattle.rz_chronicle.specs.Kinds.{keeps_legal}
 use Rattle.rz_contents.specs.Model.{Model, model_of, IsSame}
 use Rattle.rz_contents.specs.Putting.{model_put}
@@ -34,7 +34,7 @@ LooksSame old new = IsSame (model_in old) (model_in new)
 
 -- The block of the file at the path contains this text now. No other block was changed, and of the names the size of that file alone,
 -- which was raised to the end of the text where that lay behind it.
-pub record IsPut (old : StoreView) (path : List ℕ) (block : ℕ) (text : List ℕ) (new : StoreView) : Type 0 where
+pub record HasPut (old : StoreView) (path : List ℕ) (block : ℕ) (text : List ℕ) (new : StoreView) : Type 0 where
   pub file : Found
   pub at : IsFileAt (model_in old).names path file
   pub stamp : ℕ
@@ -42,36 +42,33 @@ pub record IsPut (old : StoreView) (path : List ℕ) (block : ℕ) (text : List 
   pub put : IsSame (model_put old.volume.layout (write.Acked stamp mask) (key_in file block) text (model_in old)) (model_in new)
 
 -- this is what the block of the file at the path contains
-pub record IsGot (s : StoreView) (path : List ℕ) (block : ℕ) (text : Option (List ℕ)) : Type 0 where
+pub record HasGot (s : StoreView) (path : List ℕ) (block : ℕ) (text : Option (List ℕ)) : Type 0 where
   pub file : Found
   pub at : IsFileAt (model_in s).names path file
   pub got : (model_in s).blocks (key_in file block) ≡ text
 
 -- Ranges.
 
--- the names after so many bytes were written from an offset on; where there are none, nothing is written
-abbrev pub names_written : ℕ → ℕ → ℕ → Tree → Tree
-names_written fid offset count t = cond (nat_lt 0 count) (grown t fid (offset + count)) t
-
--- The file at the path has these bytes from an offset on. All else is as it was, but for the size of that file, which was raised to where
--- they end.
-pub record IsWritten (old : StoreView) (path : List ℕ) (offset : ℕ) (bytes : List ℕ) (new : StoreView) : Type 0 where
+-- The file at the path has these bytes, of which there are some, from an offset on. All else is as it was, but for the size of that file,
+-- which was raised to where they end.
+pub record HasWritten (old : StoreView) (path : List ℕ) (offset : ℕ) (bytes : List ℕ) (new : StoreView) : Type 0 where
   pub file : Found
   pub at : IsFileAt (model_in old).names path file
   pub written : WritesBytes old.volume.layout (model_in old) file.fid offset bytes (model_in new)
-  pub names : (model_in new).names ≡ names_written file.fid offset (length bytes) (model_in old).names
+  pub names : (model_in new).names ≡ grown (model_in old).names file.fid (offset + length bytes)
 
--- So many bytes at the front are written, or none, and nothing is changed.
-abbrev pub IsUpTo : StoreView → List ℕ → ℕ → ℕ → List ℕ → StoreView → Type 0
-IsUpTo old path offset zero bytes new = LooksSame old new
-IsUpTo old path offset (suc n) bytes new = (suc n ≤ length bytes) × IsWritten old path offset (take (suc n) bytes) new
+-- So many bytes at the front are written, or none, and then nothing is changed.
+pub record IsUpTo (old : StoreView) (path : List ℕ) (offset count : ℕ) (bytes : List ℕ) (new : StoreView) : Type 0 where
+  pub within : count ≤ length bytes
+  pub none : count ≡ 0 → LooksSame old new
+  pub some : 0 < count → HasWritten old path offset (take count bytes) new
 
 -- these are bytes of the file at the path from an offset on
 abbrev pub HasPart : StoreView → List ℕ → ℕ → List ℕ → Type 0
 HasPart s path offset bytes = (file : Found) × IsFileAt (model_in s).names path file × ReadsBytes s.volume.layout (model_in s) file.fid offset bytes
 
 -- These are the bytes of the file at the path from an offset on, as many as were wanted or as it has there.
-pub record IsRead (s : StoreView) (path : List ℕ) (offset wanted : ℕ) (bytes : List ℕ) : Type 0 where
+pub record HasRead (s : StoreView) (path : List ℕ) (offset wanted : ℕ) (bytes : List ℕ) : Type 0 where
   pub file : Found
   pub at : IsFileAt (model_in s).names path file
   pub many : length bytes ≡ min wanted (file.object.size - offset)

@@ -5,9 +5,10 @@ ghost use Rattle.rz_events.specs.declared.operations.Datum.TheVariants as datum;
 ghost use Rattle.rz_events.specs.declared.operations.Operation.TheVariants as operation;
 ghost use Rattle.rz_operation.specs.Machine.{text_of};
 ghost use Rattle.rz_operation_model.specs.Ask.{ask_of};
-ghost use Rattle.rz_store.specs.Store.{IfLegal, LooksSame, IsPut, IsGot};
+ghost use Rattle.rz_chronicle.specs.Keys.{IsLater};
+ghost use Rattle.rz_store.specs.Store.{IfLegal, LooksSame, HasPut, HasGot};
 ghost use Rattle.rz_store.specs.Causes.{IsReadCause, IsWriteCause};
-ghost use Rattle.rz_store.specs.Outcomes.{fault_of, put_fault, write_denied, read_denied, told_by, IsGetTold};
+ghost use Rattle.rz_store.specs.Outcomes.{end_told, put_told, write_denied, read_denied, told_by, IsGetTold};
 
 use crate::faults::{ReadFault, WriteFault};
 use crate::store::Store;
@@ -49,29 +50,29 @@ fn write_denied(why: Denial) -> WriteFault
     }
 }
 
-/// Why a block is not written whose write ended so.
-fn fault_of(end: WriteEnd) -> Option<WriteFault>
-    ensures { result ≡ fault_of end }
+/// What a write tells that ended so.
+fn end_told(end: WriteEnd) -> Result<(), WriteFault>
+    ensures { result ≡ end_told end }
 {
     match end {
-        WriteEnd::Acked { .. } => None,
-        WriteEnd::TooFew { why } => Some(WriteFault::TooFew(why)),
-        WriteEnd::Denied(why) => Some(write_denied(why)),
-        WriteEnd::Revoked { .. } => Some(WriteFault::Disturbed),
+        WriteEnd::Acked { .. } => Ok(()),
+        WriteEnd::TooFew { why } => Err(WriteFault::TooFew(why)),
+        WriteEnd::Denied(why) => Err(write_denied(why)),
+        WriteEnd::Revoked { .. } => Err(WriteFault::Disturbed),
     }
 }
 
-/// Why a block is not written whose put is about to say its last word.
-fn put_fault(machine: &Machine) -> Option<WriteFault>
-    ensures { result ≡ put_fault (ask_of machine.now.layout machine.now.work) }
+/// What a put tells that is about to say its last word.
+fn put_told(machine: &Machine) -> Result<(), WriteFault>
+    ensures { result ≡ put_told (ask_of machine.now.layout machine.now.work) }
 {
     match machine.next() {
-        Ask::Say(Saying::Gave { end, .. }) => fault_of(end),
+        Ask::Say(Saying::Gave { end, .. }) => end_told(end),
         Ask::Say(Saying::Done(answer)) => match answer {
-            Answer::Refused(fault) => Some(WriteFault::Names(*fault)),
-            _ => Some(WriteFault::Disturbed),
+            Answer::Refused(fault) => Err(WriteFault::Names(*fault)),
+            _ => Err(WriteFault::Disturbed),
         },
-        _ => Some(WriteFault::Disturbed),
+        _ => Err(WriteFault::Disturbed),
     }
 }
 
@@ -127,32 +128,26 @@ impl<D: Disk, J: Metering> Store<D, J> {
         bytes: &[u8],
     ) -> Result<(), WriteFault>
         requires short { length bytes.now ≤ block_bytes_of self.old.volume.layout }
-        ensures done { OnOk result (IfLegal J.kind (IsPut self.old path.now block bytes.now self.new)) }
+        ensures done { OnOk result (IfLegal J.kind (HasPut self.old path.now block bytes.now self.new)) }
         ensures kept { OnErr result (IfLegal J.kind (LooksSame self.old self.new)) }
         ensures cause { IfErr result (λ f. IfLegal J.kind (IsWriteCause self.old path.now block f)) }
+        ensures later { IfLegal J.kind (IsLater self.old.log self.new.log) }
         ensures volume { self.new.volume ≡ self.old.volume }
     {
         rz_contents::leads_to_block();
         rz_contents::put_watched();
         rz_contents::puts_caused();
         rz_contents::still();
-        let Ok(op) = put_of(self.sole.alloc(), path, block, bytes) else {
-            return Err(WriteFault::Stopped(Stop::NoMemory));
-        };
-        let Performed { machine, stopped } = match self.sole.perform(rt, op) {
-            Ok(performed) => performed,
-            Err(why) => return Err(WriteFault::Stopped(why)),
-        };
+        let op = put_of(self.sole.alloc(), path, block, bytes)?;
+        let performed = self.sole.perform(rt, op)?;
+        let Performed { machine, stopped } = performed;
         if let Some(why) = stopped {
             self.sole.end(machine);
             return Err(WriteFault::Stopped(why));
         }
-        let fault = put_fault(&machine);
-        self.sole.finish(rt, machine);
-        match fault {
-            None => Ok(()),
-            Some(fault) => Err(fault),
-        }
+        let told = put_told(&machine);
+        let _said = self.sole.conclude(rt, machine);
+        told
     }
 
     /// What a block of the file at a path contains, in new memory: nothing where it was never written.
@@ -162,9 +157,10 @@ impl<D: Disk, J: Metering> Store<D, J> {
         path: &str,
         block: u64,
     ) -> Result<Option<Text>, ReadFault>
-        ensures told { IfOk result (λ text. IfLegal J.kind (IsGot self.old path.now block text)) }
+        ensures told { IfOk result (λ text. IfLegal J.kind (HasGot self.old path.now block text)) }
         ensures same { IfLegal J.kind (LooksSame self.old self.new) }
         ensures cause { IfErr result (λ f. IfLegal J.kind (IsReadCause self.old path.now block f)) }
+        ensures later { IfLegal J.kind (IsLater self.old.log self.new.log) }
         ensures volume { self.new.volume ≡ self.old.volume }
     {
         rz_contents::leads_to_block();
@@ -172,21 +168,15 @@ impl<D: Disk, J: Metering> Store<D, J> {
         rz_contents::get_alone();
         rz_contents::gets_caused();
         rz_contents::still();
-        let Ok(op) = get_of(self.sole.alloc(), path, block) else {
-            return Err(ReadFault::Stopped(Stop::NoMemory));
-        };
-        let Performed { machine, stopped } = match self.sole.perform(rt, op) {
-            Ok(performed) => performed,
-            Err(why) => return Err(ReadFault::Stopped(why)),
-        };
+        let op = get_of(self.sole.alloc(), path, block)?;
+        let performed = self.sole.perform(rt, op)?;
+        let Performed { machine, stopped } = performed;
         if let Some(why) = stopped {
             self.sole.end(machine);
             return Err(ReadFault::Stopped(why));
         }
         let told = get_told(self.sole.alloc(), &machine);
-        match self.sole.conclude(rt, machine) {
-            Ok(()) => told,
-            Err(why) => Err(ReadFault::Stopped(why)),
-        }
+        self.sole.conclude(rt, machine)?;
+        told
     }
 }

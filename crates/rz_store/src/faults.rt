@@ -2,6 +2,7 @@
 
 use rz_events::{Seen, TreeFault, Why};
 use rz_store_turns::Stop;
+use std::alloc::AllocError;
 
 /// Why a call on names is not done. Nothing is changed.
 #[derive(Clone, Copy, Drop)]
@@ -45,4 +46,84 @@ pub enum WriteFault {
     /// Somebody else wrote the block, or the answer was none to the call.
     Disturbed,
     Stopped(Stop),
+}
+
+impl From<Stop> for NameFault {
+    ghost use Rattle.std.specs.Prelude.{◌≡◌};
+    ghost use Rattle.rz_store.specs.declared.faults.NameFault.TheVariants.{Stopped};
+
+    ghost from_gives = { λ why e. e ≡ Stopped why };
+
+    fn from(why: Stop) -> NameFault {
+        NameFault::Stopped(why)
+    }
+}
+
+impl From<AllocError> for NameFault {
+    ghost use Rattle.std.specs.Prelude.{◌≡◌};
+    ghost use Rattle.rz_store.specs.declared.faults.NameFault.TheVariants.{Stopped};
+    ghost use Rattle.rz_store_turns.specs.declared.sole.Stop.TheVariants.{NoMemory};
+
+    ghost from_gives = { λ _ e. e ≡ Stopped NoMemory };
+
+    fn from(_error: AllocError) -> NameFault {
+        NameFault::Stopped(Stop::NoMemory)
+    }
+}
+
+impl From<Stop> for ReadFault {
+    ghost use Rattle.std.specs.Prelude.{◌≡◌};
+    ghost use Rattle.rz_store.specs.declared.faults.ReadFault.TheVariants.{Stopped};
+
+    ghost from_gives = { λ why e. e ≡ Stopped why };
+
+    fn from(why: Stop) -> ReadFault {
+        ReadFault::Stopped(why)
+    }
+}
+
+impl From<AllocError> for ReadFault {
+    ghost use Rattle.std.specs.Prelude.{◌≡◌};
+    ghost use Rattle.rz_store.specs.declared.faults.ReadFault.TheVariants.{Stopped};
+    ghost use Rattle.rz_store_turns.specs.declared.sole.Stop.TheVariants.{NoMemory};
+
+    ghost from_gives = { λ _ e. e ≡ Stopped NoMemory };
+
+    fn from(_error: AllocError) -> ReadFault {
+        ReadFault::Stopped(Stop::NoMemory)
+    }
+}
+
+impl From<Stop> for WriteFault {
+    ghost use Rattle.std.specs.Prelude.{◌≡◌};
+    ghost use Rattle.rz_store.specs.declared.faults.WriteFault.TheVariants.{Stopped};
+
+    ghost from_gives = { λ why e. e ≡ Stopped why };
+
+    fn from(why: Stop) -> WriteFault {
+        WriteFault::Stopped(why)
+    }
+}
+
+impl From<AllocError> for WriteFault {
+    ghost use Rattle.std.specs.Prelude.{◌≡◌};
+    ghost use Rattle.rz_store.specs.declared.faults.WriteFault.TheVariants.{Stopped};
+    ghost use Rattle.rz_store_turns.specs.declared.sole.Stop.TheVariants.{NoMemory};
+
+    ghost from_gives = { λ _ e. e ≡ Stopped NoMemory };
+
+    fn from(_error: AllocError) -> WriteFault {
+        WriteFault::Stopped(Stop::NoMemory)
+    }
+}
+
+impl From<ReadFault> for WriteFault {
+    ghost use Rattle.std.specs.Prelude.{◌≡◌};
+    ghost use Rattle.rz_store.specs.declared.faults.WriteFault.TheVariants.{Unread};
+
+    ghost from_gives = { λ fault e. e ≡ Unread fault };
+
+    fn from(fault: ReadFault) -> WriteFault {
+        WriteFault::Unread(fault)
+    }
 }

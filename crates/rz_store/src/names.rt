@@ -7,6 +7,7 @@ ghost use Rattle.rz_events.specs.declared.files.FileInfo.{FileInfo as AFile};
 ghost use Rattle.rz_events.specs.declared.tree.TreeCall.TheVariants as c;
 ghost use Rattle.rz_events.specs.declared.tree.TreeReply.TheVariants as r;
 ghost use Rattle.rz_operation_model.specs.Ask.{ask_of};
+ghost use Rattle.rz_chronicle.specs.Keys.{IsLater};
 ghost use Rattle.rz_log_laws.specs.Changes.{only_asks};
 ghost use Rattle.rz_contents.specs.Files.{opens_file};
 ghost use Rattle.rz_store.specs.Store.{IfLegal, LooksSame, IsCalled};
@@ -20,18 +21,14 @@ use rz_events::{Answer, Attr, Listing, Operation, Text, TreeCall};
 use rz_operation::{Ask, Machine, Saying};
 use rz_shared::Metering;
 use rz_store_turns::{Performed, Stop};
-use std::alloc::Global;
+use std::alloc::{AllocError, Global};
 use std::sync::Wait;
 
 /// A path in new memory.
-fn path_of(alloc: Global, path: &str) -> Result<Text, NameFault>
-    ensures path { IfOk result (λ t. t ≡ path.now) }
-    ensures wanting { IfErr result (λ e. e ≡ NameFault.Stopped Stop.NoMemory) }
+fn path_of(alloc: Global, path: &str) -> Result<Text, AllocError>
+    ensures { IfOk result (λ t. t ≡ path.now) }
 {
-    match Text::from_bytes(alloc, path.as_bytes()) {
-        Ok(path) => Ok(path),
-        Err(_) => Err(NameFault::Stopped(Stop::NoMemory)),
-    }
+    Text::from_bytes(alloc, path.as_bytes())
 }
 
 /// What a call that changes names tells where it is about to answer, or drops what it took away.
@@ -100,10 +97,8 @@ impl<D: Disk, J: Metering> Store<D, J> {
     {
         rz_contents::calls_watched();
         rz_contents::still();
-        let Performed { machine, stopped } = match self.sole.perform(rt, Operation::Tree(call)) {
-            Ok(performed) => performed,
-            Err(why) => return Err(NameFault::Stopped(why)),
-        };
+        let performed = self.sole.perform(rt, Operation::Tree(call))?;
+        let Performed { machine, stopped } = performed;
         if let Some(why) = stopped {
             let unanswered = is_unanswered(&machine);
             self.sole.end(machine);
@@ -114,7 +109,7 @@ impl<D: Disk, J: Metering> Store<D, J> {
             };
         }
         let told = change_told(&machine);
-        self.sole.finish(rt, machine);
+        let _said = self.sole.conclude(rt, machine);
         told
     }
 
@@ -124,21 +119,20 @@ impl<D: Disk, J: Metering> Store<D, J> {
         requires names { opens_file call ≡ false }
         ensures told { IfOk result (λ a. IfLegal J.kind (HasAsked self.old call a)) }
         ensures same { IfLegal J.kind (LooksSame self.old self.new) }
+        ensures later { IfLegal J.kind (IsLater self.old.log self.new.log) }
         ensures cause { IfErr result (λ e. IfLegal J.kind (IsNameCause self.old call e)) }
         ensures volume { self.new.volume ≡ self.old.volume }
     {
         rz_contents::calls_watched();
         rz_contents::still();
-        let Performed { machine, stopped } = match self.sole.perform(rt, Operation::Tree(call)) {
-            Ok(performed) => performed,
-            Err(why) => return Err(NameFault::Stopped(why)),
-        };
+        let performed = self.sole.perform(rt, Operation::Tree(call))?;
+        let Performed { machine, stopped } = performed;
         if let Some(why) = stopped {
             self.sole.end(machine);
             return Err(NameFault::Stopped(why));
         }
         let told = ask_told(self.sole.alloc(), &machine);
-        self.sole.finish(rt, machine);
+        let _said = self.sole.conclude(rt, machine);
         told
     }
 
@@ -257,6 +251,7 @@ impl<D: Disk, J: Metering> Store<D, J> {
     pub fn stat<R: Wait>(&mut self, rt: &R, path: &str) -> Result<Attr, NameFault>
         ensures told { IfOk result (λ told. IfLegal J.kind (Replies self.old (c.Getattr path.now) (r.Attr told))) }
         ensures same { IfLegal J.kind (LooksSame self.old self.new) }
+        ensures later { IfLegal J.kind (IsLater self.old.log self.new.log) }
         ensures cause { IfErr result (λ e. IfLegal J.kind (IsNameCause self.old (c.Getattr path.now) e)) }
         ensures volume { self.new.volume ≡ self.old.volume }
     {
@@ -274,6 +269,7 @@ impl<D: Disk, J: Metering> Store<D, J> {
     pub fn list<R: Wait>(&mut self, rt: &R, path: &str) -> Result<Listing, NameFault>
         ensures told { IfOk result (λ told. IfLegal J.kind (Replies self.old (c.Readdir path.now) (r.Names told))) }
         ensures same { IfLegal J.kind (LooksSame self.old self.new) }
+        ensures later { IfLegal J.kind (IsLater self.old.log self.new.log) }
         ensures cause { IfErr result (λ e. IfLegal J.kind (IsNameCause self.old (c.Readdir path.now) e)) }
         ensures volume { self.new.volume ≡ self.old.volume }
     {
@@ -291,6 +287,7 @@ impl<D: Disk, J: Metering> Store<D, J> {
     pub fn read_link<R: Wait>(&mut self, rt: &R, path: &str) -> Result<Text, NameFault>
         ensures told { IfOk result (λ told. IfLegal J.kind (Replies self.old (c.Readlink path.now) (r.Target told))) }
         ensures same { IfLegal J.kind (LooksSame self.old self.new) }
+        ensures later { IfLegal J.kind (IsLater self.old.log self.new.log) }
         ensures cause { IfErr result (λ e. IfLegal J.kind (IsNameCause self.old (c.Readlink path.now) e)) }
         ensures volume { self.new.volume ≡ self.old.volume }
     {

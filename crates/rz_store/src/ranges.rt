@@ -3,8 +3,9 @@ ghost use Rattle.std.specs.Prelude.{◌≡◌, ◌≤◌, ◌<◌, ◌+◌, ◌-
 ghost use Rattle.mj_angles.specs.Layout.{block_bytes_of};
 ghost use Rattle.rz_export_model.specs.Tree.{Found};
 ghost use Rattle.rz_contents.specs.Files.{IsFileAt};
-ghost use Rattle.rz_store.specs.Store.{IfLegal, LooksSame, model_in, IsWritten, IsRead, IsUpTo, HasPart};
-ghost use Rattle.rz_store.specs.Causes.{IsReadCause, IsWriteCause};
+ghost use Rattle.rz_store.specs.Store.{IfLegal, LooksSame, model_in, HasWritten, HasRead, IsUpTo, HasPart};
+ghost use Rattle.rz_chronicle.specs.Keys.{IsLater};
+ghost use Rattle.rz_store.specs.Causes.{IsReadCause, IsWriteCause, WasCause, IsBlockOf};
 
 use crate::faults::{NameFault, ReadFault, WriteFault};
 use crate::store::Store;
@@ -13,7 +14,6 @@ use mj_angles::Layout;
 use rz_disk::Disk;
 use rz_events::{Kind, Text, TreeFault};
 use rz_shared::Metering;
-use rz_store_turns::Stop;
 use std::sync::Wait;
 
 /// A write that was not ended: so many bytes at the front are written, and no other byte is changed.
@@ -47,6 +47,13 @@ fn count_in(layout: Layout, offset: u64, left: usize) -> usize
     left.min(layout.block_bytes() - place_in(layout, offset))
 }
 
+/// How many of the bytes from an offset on lie before an end.
+fn count_to(end: u64, offset: u64, room: usize) -> usize
+    ensures { result ≡ min room (end - offset) }
+{
+    end.saturating_sub(offset).min(room as u64) as usize
+}
+
 impl<D: Disk, J: Metering> Store<D, J> {
     // Writes bytes of one block.
     fn write_part<R: Wait>(
@@ -58,9 +65,10 @@ impl<D: Disk, J: Metering> Store<D, J> {
     ) -> Result<(), WriteFault>
         requires some { 0 < length bytes.now }
         requires part { offset % block_bytes_of self.old.volume.layout + length bytes.now ≤ block_bytes_of self.old.volume.layout }
-        ensures done { OnOk result (IfLegal J.kind (IsWritten self.old path.now offset bytes.now self.new)) }
+        ensures done { OnOk result (IfLegal J.kind (HasWritten self.old path.now offset bytes.now self.new)) }
         ensures kept { OnErr result (IfLegal J.kind (LooksSame self.old self.new)) }
-        ensures cause { IfErr result (λ f. IfLegal J.kind (IsWriteCause self.old path.now (offset / block_bytes_of self.old.volume.layout) f)) }
+        ensures cause { IfErr result (λ f. IfLegal J.kind (WasCause (λ s. IsWriteCause s path.now (offset / block_bytes_of self.old.volume.layout) f) self.old self.new)) }
+        ensures later { IfLegal J.kind (IsLater self.old.log self.new.log) }
         ensures volume { self.new.volume ≡ self.old.volume }
     {
         rz_contents::covered();
@@ -73,17 +81,12 @@ impl<D: Disk, J: Metering> Store<D, J> {
         if bytes.len() == size {
             return self.put(rt, path, block, bytes);
         }
-        let text = match self.get(rt, path, block) {
-            Ok(text) => text,
-            Err(fault) => return Err(WriteFault::Unread(fault)),
-        };
+        let text = self.get(rt, path, block)?;
         let text = bytes_in(&text);
         if text.len() > size {
             return Err(WriteFault::Disturbed);
         }
-        let Ok(whole) = patched(self.sole.alloc(), text, from, bytes) else {
-            return Err(WriteFault::Stopped(Stop::NoMemory));
-        };
+        let whole = patched(self.sole.alloc(), text, from, bytes)?;
         self.put(rt, path, block, &whole)
     }
 
@@ -98,7 +101,8 @@ impl<D: Disk, J: Metering> Store<D, J> {
         requires range { offset + length bytes.now ≤ 4294967296 }
         ensures done { OnOk result (IfLegal J.kind (IsUpTo self.old path.now offset (length bytes.now) bytes.now self.new)) }
         ensures part { IfErr result (λ e. IfLegal J.kind (IsUpTo self.old path.now offset e.written bytes.now self.new)) }
-        ensures cause { IfErr result (λ e. IfLegal J.kind ((block : ℕ) × IsWriteCause self.old path.now block e.cause)) }
+        ensures cause { IfErr result (λ e. IfLegal J.kind (WasCause (λ s. IsWriteCause s path.now ((offset + e.written) / block_bytes_of self.old.volume.layout) e.cause) self.old self.new)) }
+        ensures later { IfLegal J.kind (IsLater self.old.log self.new.log) }
         ensures volume { self.new.volume ≡ self.old.volume }
     {
         rz_contents::writes_together();
@@ -119,7 +123,8 @@ impl<D: Disk, J: Metering> Store<D, J> {
     fn size_of<R: Wait>(&mut self, rt: &R, path: &str) -> Result<u64, ReadFault>
         ensures told { IfOk result (λ size. IfLegal J.kind ((file : Found) × IsFileAt (model_in self.old).names path.now file × (file.object.size ≡ size))) }
         ensures same { IfLegal J.kind (LooksSame self.old self.new) }
-        ensures cause { IfErr result (λ f. IfLegal J.kind (IsReadCause self.old path.now 0 f)) }
+        ensures cause { IfErr result (λ f. IfLegal J.kind ((block : ℕ) → IsReadCause self.old path.now block f)) }
+        ensures later { IfLegal J.kind (IsLater self.old.log self.new.log) }
         ensures volume { self.new.volume ≡ self.old.volume }
     {
         match self.stat(rt, path) {
@@ -147,6 +152,7 @@ impl<D: Disk, J: Metering> Store<D, J> {
         ensures length { length out.new ≡ length out.old }
         ensures same { IfLegal J.kind (LooksSame self.old self.new) }
         ensures cause { IfErr result (λ f. IfLegal J.kind (IsReadCause self.old path.now (offset / block_bytes_of self.old.volume.layout) f)) }
+        ensures later { IfLegal J.kind (IsLater self.old.log self.new.log) }
         ensures volume { self.new.volume ≡ self.old.volume }
     {
         rz_contents::reads_text();
@@ -167,20 +173,18 @@ impl<D: Disk, J: Metering> Store<D, J> {
         out: &mut [u8],
     ) -> Result<usize, ReadFault>
         ensures some { IfOk result (λ n. n ≤ length out.old) }
-        ensures gives { IfOk result (λ n. IfLegal J.kind (IsRead self.old path.now offset (length out.old) (take n out.new))) }
+        ensures gives { IfOk result (λ n. IfLegal J.kind (HasRead self.old path.now offset (length out.old) (take n out.new))) }
         ensures rest { IfOk result (λ n. drop n out.new ≡ drop n out.old) }
         ensures length { length out.new ≡ length out.old }
         ensures same { IfLegal J.kind (LooksSame self.old self.new) }
-        ensures cause { IfErr result (λ f. IfLegal J.kind ((block : ℕ) × IsReadCause self.old path.now block f)) }
+        ensures cause { IfErr result (λ f. IfLegal J.kind ((block : ℕ) × IsBlockOf self.old.volume.layout offset (length out.old) block × WasCause (λ s. IsReadCause s path.now block f) self.old self.new)) }
+        ensures later { IfLegal J.kind (IsLater self.old.log self.new.log) }
         ensures volume { self.new.volume ≡ self.old.volume }
     {
         rz_contents::reads_together();
         let layout = self.sole.layout();
         let size = self.size_of(rt, path)?;
-        let wanted = match size.checked_sub(offset) {
-            Some(left) => (out.len() as u64).min(left) as usize,
-            None => 0,
-        };
+        let wanted = count_to(size, offset, out.len());
         let mut at: usize = 0;
         while at < wanted {
             let next = offset + at as u64;

@@ -2,7 +2,8 @@
 use Rattle.std.proofs.Common.{ℕ, Bool, true, false, ◌==◌, ◌≡◌, ◌≢◌, inl, inr, ◌-◌, ◌^◌, ◌<◌, List, [], ◌∷◌, map, length, Option, Some, None, is_some, cond, IsTrue, refl, sym, ◌∙◌, ap, ap₂, subst, arith, eqb-true, eq-eqb}
 use Rattle.std.specs.Prelude.{unwrap_or, IfSome}
 use Rattle.std.specs.List.{AllByRecursion, AllZip, zip}
-use Rattle.rz_disk.specs.Meter.{Meter}
+use Rattle.std.proofs.lemmas.List.{length-map}
+use Rattle.rz_disk.specs.Meter.{Meter, faults}
 use Rattle.rz_disk.specs.UnderFuse.{UnderFuse}
 use Rattle.rz_events.specs.Events.{word_of, same_word}
 use Rattle.rz_events.specs.Volume.{Volume, IsVolume, nodes_of}
@@ -30,8 +31,11 @@ use Rattle.rz_log_laws.specs.Losses.{AreLossesEnrolled, AreLossesKnown}
 use Rattle.rz_node_laws.specs.Images.{geometry_in}
 use Rattle.rz_journal.specs.JournalText.{after_all, IsTextOf}
 use Rattle.rz_journal.specs.Kept.{IsExportAfter}
+use Rattle.rz_journal.specs.Opening.{IsJournalRefused}
+use Rattle.rz_journal.specs.declared.rebuilding.JournalFault.{JournalFault}
+use Rattle.rz_journal.specs.declared.rebuilding.JournalFault.TheVariants as fault
 use Rattle.rz_metadata.specs.Enrolled.{loss_of}
-use Rattle.rz_metadata.specs.Reopened.{AllTextsOf}
+use Rattle.rz_metadata.specs.Reopened.{AllTextsOf, IsAsItCame}
 use Rattle.rz_metadata.specs.Stands.{Stands as JournalStands, export_in}
 use Rattle.rz_nodes.specs.Arrived.{IsArrival, IsHere, IsMissing}
 use Rattle.rz_nodes.specs.Formatted.{geometry_of}
@@ -54,7 +58,7 @@ use Rattle.rz_shared.specs.declared.seating.Arrived.{Arrived}
 use Rattle.rz_shared.specs.declared.seating.Arrived.TheVariants as arrived
 use Rattle.rz_shared.proofs.Readiness.{IsDescribed, described}
 use Rattle.rz_store_opening.specs.Opened.{IsOpenedAfter}
-use Rattle.rz_store_opening.specs.Opening.{AreLeft, AreOpenedDisks, GoesOnAfter, IsBackAt, IsPlaceBack, IsReopened, IsReopeningLaw, MayStand, arrived_by, disk_in, disks_in, here_in, known_of, missing_in, nodes_in, reopened, sid_of, state_at}
+use Rattle.rz_store_opening.specs.Opening.{AreHandedBack, AreLeft, AreOpenedDisks, GoesOnAfter, IsBackAt, IsOpenedStore, IsPlaceBack, IsReopened, IsReopeningLaw, IsUnopened, MayStand, arrived_by, disk_in, disks_in, here_in, known_of, missing_in, nodes_in, reopened, sid_of, state_at}
 use Rattle.rz_store_opening.specs.declared.disks.OpenedDisks.{OpenedDisks}
 use Rattle.rz_store_opening.proofs.Openings.{opened}
 use Rattle.rz_store_opening.proofs.Taken.{back-as-told}
@@ -328,18 +332,20 @@ reopens tells meter text image imaged replaces returns on given known stale agai
 -- ---- what was opened
 
 module _ {D : Type 0} (tells : Bool) (meter : D → Meter) (text : D → List ℕ) (image : D → List ℕ → Type 0) (law : IsReopeningLaw tells meter text image)
-    (v : Volume) (h : List Event) (new : ℕ → NewDisk) (first : ℕ) (disks : List (Option D)) (journal : D) (o : OpenedDisks D) where
-  pub goes-on-after : IsVolume v → IsTrue tells → AreLeft image v h new disks journal → AreOpenedDisks tells meter text image v disks o → (export_in o.parts.metadata).volume ≡ v → (IsTrue tells → image journal (text journal))
+    (v : Volume) (h : List Event) (new : ℕ → NewDisk) (disks : List (Option D)) (journal : D) (o : OpenedDisks D) where
+  pub goes-on-after : IsOpenedStore tells meter text image v disks journal o → IsTrue tells × AreLeft image v h new disks journal → (IsTrue tells → image journal (text journal))
       → (IsTrue tells → (calls : List Call) → IsTextOf v (text journal) calls → IsExportAfter (export_in o.parts.metadata) calls)
-      → (IsTrue tells → (calls : List Call) → AllTextsOf v (image journal) calls → JournalStands tells meter image first o.parts.metadata calls) → GoesOnAfter tells meter text image v h new first o
-  goes-on-after rules told left opened of_volume imaged calls stands =
-      let it = subst (λ (ns : List (Arrived D)). IsReopened meter text image v h (replaced new (numbers v) h) (reopened v new ns h) (export_in o.parts.metadata) ns) (sym opened.nodes)
-      (law v h new disks journal (export_in o.parts.metadata) opened.arrivals rules told left of_volume (calls told (changing_calls h) (left.last (text journal) (imaged told))) opened.arrived) in record {
+      → (IsTrue tells → (calls : List Call) → AllTextsOf v (image journal) calls → JournalStands tells meter image (faults (meter journal)) o.parts.metadata calls) → GoesOnAfter tells meter text image v h new (faults (meter journal)) o
+  goes-on-after opened known imaged calls stands =
+      let told = known.0 in
+      let left = known.1 in
+      let it = subst (λ (ns : List (Arrived D)). IsReopened meter text image v h (replaced new (numbers v) h) (reopened v new ns h) (export_in o.parts.metadata) ns) (sym opened.nodes.nodes)
+      (law v h new disks journal (export_in o.parts.metadata) opened.nodes.arrivals opened.rules told left opened.of_volume (calls told (changing_calls h) (left.last (text journal) (imaged told))) opened.nodes.arrived) in record {
         told = told;
         nodes = it;
         short = (let few = it.few in let low = left.earlier.few in omega (arith, few, low));
         bytes = λ s b is. left.bytes s b (ap (λ (f : Facts). f.wrote s) (sym it.facts_are) ∙ is);
-        stands = subst (λ cs. JournalStands tells meter image first o.parts.metadata cs) (ap₂ (λ f w. calls_told f w) (sym it.facts_are) (sym it.export_word)) (stands told (changing_calls h) left.last);
+        stands = subst (λ cs. JournalStands tells meter image (faults (meter journal)) o.parts.metadata cs) (ap₂ (λ f w. calls_told f w) (sym it.facts_are) (sym it.export_word)) (stands told (changing_calls h) left.last);
       }
 
 -- ---- the disks go back
@@ -374,6 +380,14 @@ module _ {D : Type 0} (tells : Bool) (meter : D → Meter) (text : D → List �
   all-back (k ∷ known) (d ∷ disks) (arrival.Away why ∷ arrivals) count all =
       (away-back k d (record { sid = k.node.sid; fence = k.fence; losses = k.losses }) why all.0, all-back known disks arrivals (omega (arith, count)) all.1)
 
+  pub handed-back : (v : Volume) (disks : List (Option D)) (o : OpenedDisks D) → v.layout ≡ layout → AreOpenedDisks tells meter text image v disks o → AllZip Back disks (disks_in o.parts.nodes.items o.missing.items)
+  handed-back v disks o same opened =
+      let known = known_of (export_in o.parts.metadata) (nodes_of v.clusters) in
+      subst (λ (ns : List (Arrived D)). AllZip Back disks (disks_in ns o.missing.items)) (sym opened.nodes)
+      (subst (λ (ms : List (Option (Missing D))). AllZip Back disks (disks_in (arrived_by known opened.arrivals) ms)) (sym opened.missing)
+      (all-back known disks opened.arrivals (opened.count ∙ sym (length-map (nodes_of v.clusters) _))
+      (subst (λ (l : Layout). AllZip (IsArrival tells meter text image l) (zip known disks) opened.arrivals) same opened.arrived)))
+
   same-one : (d : Option D) → Back d d
   same-one None = tt
   same-one (Some d) = record { count = omega arith; same = refl; images = λ c is. is }
@@ -381,3 +395,16 @@ module _ {D : Type 0} (tells : Bool) (meter : D → Meter) (text : D → List �
   pub all-same : (disks : List (Option D)) → AllZip Back disks disks
   all-same [] = tt
   all-same (d ∷ disks) = (same-one d, all-same disks)
+
+pub are-handed-back : {D : Type 0} (tells : Bool) (meter : D → Meter) (text : D → List ℕ) (image : D → List ℕ → Type 0) → AreHandedBack tells meter text image
+are-handed-back tells meter text image v disks o opened = handed-back tells meter text image v.layout v disks o refl opened
+
+-- where memory was wanting, the journal's disk is as it came
+pub wanted : {D : Type 0} (tells : Bool) (meter : D → Meter) (text : D → List ℕ) (image : D → List ℕ → Type 0) (v : Volume) (journal : D) (disk : Option D) (back : D) (why : JournalFault)
+    → IfSome disk (IsAsItCame meter text image journal) → disk ≡ Some back → why ≡ fault.NoMemory → IsUnopened tells meter text image v journal back why
+wanted {D = D} tells meter text image v journal disk back why came at want = record {
+  same = subst (λ (o : Option D). IfSome o (IsAsItCame meter text image journal)) at came;
+  refused = subst (λ (w : JournalFault). IsJournalRefused tells v (text journal) w) (sym want) tt;
+  exact = λ told calls is. inl want;
+  risen = λ failed. absurd (let no : fault.NoMemory ≡ fault.DiskFault = sym want ∙ failed in cc);
+}

@@ -1,2 +1,3 @@
 pub mod Opened
 pub mod Opening
+pub mod NewStores

@@ -1,9 +1,9 @@
 -- Disks and a journal that earlier runs left, some of them away.
-use Rattle.std.specs.Prelude.{ℕ, Bool, false, not, ◌==◌, ◌≡◌, ◌≢◌, ◌⊎◌, ◌<◌, ◌≤◌, ◌+◌, ◌^◌, ◌++◌, length, cond, IsTrue, List, [], ◌∷◌, map, Option, Some, None, IfSome, is_some, unwrap_or}
+use Rattle.std.specs.Prelude.{ℕ, Bool, true, false, not, ◌==◌, ◌≡◌, ◌≢◌, ◌⊎◌, ◌<◌, ◌≤◌, ◌+◌, ◌^◌, ◌++◌, length, cond, IsTrue, List, [], ◌∷◌, map, Option, Some, None, IfSome, is_some, unwrap_or}
 use Rattle.std.specs.List.{AllByRecursion, AllZip, zip}
 use Rattle.std.specs.Option.{option_map_or}
 use Rattle.std.specs.Vec.{vec_len, vec_capacity}
-use Rattle.rz_disk.specs.Meter.{Meter}
+use Rattle.rz_disk.specs.Meter.{Meter, Rises, faults}
 use Rattle.rz_events.specs.Volume.{IsVolume, Volume, nodes_of}
 use Rattle.rz_events.specs.declared.files.NodeSpec.{NodeSpec}
 use Rattle.rz_events.specs.declared.records.Change.{Change}
@@ -11,6 +11,7 @@ use Rattle.rz_events.specs.declared.records.Change.TheVariants as change
 use Rattle.rz_events.specs.declared.nodes.Phase.TheVariants.{Lost}
 use Rattle.rz_events.specs.declared.events.Word.TheVariants.{Export, Node}
 use Rattle.rz_events.specs.declared.events.Event.{Event}
+use Rattle.rz_events.specs.declared.export.Call.{Call}
 use Rattle.rz_node_model.specs.Records.{Records, held_of, stamp_of}
 use Rattle.rz_node_model.specs.States.{NodeState, fresh}
 use Rattle.rz_node_model.specs.Versions.{has_stamp}
@@ -21,10 +22,14 @@ use Rattle.rz_core.specs.History.{facts, of_word}
 use Rattle.rz_core.specs.NodeWord.{phase, losses, undecided}
 use Rattle.rz_core.specs.NodeRows.{IsNodeOf}
 use Rattle.rz_node_laws.specs.Images.{geometry_in}
+use Rattle.rz_journal.specs.JournalText.{IsTextOf}
 use Rattle.rz_journal.specs.Kept.{IsExportAfter}
+use Rattle.rz_journal.specs.Opening.{IsJournalRefused}
+use Rattle.rz_journal.specs.declared.rebuilding.JournalFault.{JournalFault}
+use Rattle.rz_journal.specs.declared.rebuilding.JournalFault.TheVariants as fault
 use Rattle.rz_metadata.specs.Enrolled.{loss_of}
-use Rattle.rz_metadata.specs.Reopened.{AllTextsOf}
-use Rattle.rz_metadata.specs.Stands.{Stands, export_in}
+use Rattle.rz_metadata.specs.Reopened.{AllTextsOf, IsAsItCame}
+use Rattle.rz_metadata.specs.Stands.{CountsFaults, IsJournalOpen, Stands, disk_of, export_in, is_journaled}
 use Rattle.rz_nodes.specs.declared.arriving.KnownNode.{KnownNode}
 use Rattle.rz_nodes.specs.declared.arriving.Arrival.{Arrival}
 use Rattle.rz_nodes.specs.declared.arriving.Arrival.TheVariants as arrival
@@ -148,15 +153,39 @@ IsReopeningLaw {D = D} tells meter text image =
 
 -- ---- what was opened
 
--- The nodes are those of the volume, in the order of the description, each with what came of its disk; a node that is away has what the
--- metadata know of it.
+-- The nodes are those of the volume, in the order of the description, each with what came of the disk in its place; a node that is away
+-- has what the metadata know of it.
 pub record AreOpenedDisks {D : Type 0} (tells : Bool) (meter : D → Meter) (text : D → List ℕ) (image : D → List ℕ → Type 0) (v : Volume) (disks : List (Option D)) (o : OpenedDisks D) : Type 0 where
+  pub count : length disks ≡ length (nodes_of v.clusters)
   pub arrivals : List (Arrival D)
   pub arrived : AllZip (IsArrival tells meter text image v.layout) (zip (known_of (export_in o.parts.metadata) (nodes_of v.clusters)) disks) arrivals
   pub nodes : o.parts.nodes.items ≡ arrived_by (known_of (export_in o.parts.metadata) (nodes_of v.clusters)) arrivals
   pub missing : o.missing.items ≡ map missing_in arrivals
   pub empty : vec_len o.parts.home ≡ 0
   pub room : vec_len o.parts.nodes ≤ vec_capacity o.parts.home
+
+-- These nodes, and the metadata of the volume behind its journal, which is open. The journal's disk is as it came.
+pub record IsOpenedStore {D : Type 0} (tells : Bool) (meter : D → Meter) (text : D → List ℕ) (image : D → List ℕ → Type 0) (v : Volume) (disks : List (Option D)) (journal : D) (o : OpenedDisks D) : Type 0 where
+  pub rules : IsVolume v
+  pub nodes : AreOpenedDisks tells meter text image v disks o
+  pub of_volume : (export_in o.parts.metadata).volume ≡ v
+  pub journaled : is_journaled o.parts.metadata ≡ true
+  pub is_open : IsJournalOpen o.parts.metadata
+  pub counted : CountsFaults meter (faults (meter journal)) o.parts.metadata
+  pub came : IfSome (disk_of o.parts.metadata) (IsAsItCame meter text image journal)
+
+-- Nothing was opened: the journal's disk is as it came, and this fault is the first that its text has. A text that stands for calls is
+-- refused by want of memory or a failed device call alone, and after such a call the count of faults rose.
+pub record IsUnopened {D : Type 0} (tells : Bool) (meter : D → Meter) (text : D → List ℕ) (image : D → List ℕ → Type 0) (v : Volume) (journal back : D) (why : JournalFault) : Type 0 where
+  pub same : IsAsItCame meter text image journal back
+  pub refused : IsJournalRefused tells v (text journal) why
+  pub exact : IsTrue tells → (calls : List Call) → IsTextOf v (text journal) calls → (why ≡ fault.NoMemory) ⊎ (why ≡ fault.DiskFault)
+  pub risen : why ≡ fault.DiskFault → Rises (faults (meter journal)) (faults (meter back))
+
+-- It was opened on some disks, and its journal's had counted so many faults.
+abbrev pub IsOpenedOnSome : {D : Type 0} → Bool → (D → Meter) → (D → List ℕ) → (D → List ℕ → Type 0) → Volume → (counted : Option ℕ) → OpenedDisks D → Type 0
+IsOpenedOnSome {D = D} tells meter text image v counted o =
+    (disks : List (Option D)) × (journal : D) × (counted ≡ Some (faults (meter journal))) × IsOpenedStore tells meter text image v disks journal o
 
 -- What was opened goes on after the log of the earlier runs: the nodes and the metadata are those of the log with the new disks, the
 -- stops and the starts behind it, and the journal's disk stands for the calls that changed its export.
@@ -166,6 +195,11 @@ pub record GoesOnAfter {D : Type 0} (tells : Bool) (meter : D → Meter) (text :
   pub short : length (reopened v new o.parts.nodes.items h) < 2 ^ 63 + 512
   pub bytes : AreTextsOfBytes (reopened v new o.parts.nodes.items h)
   pub stands : Stands tells meter image first o.parts.metadata (changing_calls (reopened v new o.parts.nodes.items h))
+
+-- this is the log in which it goes on after some log of earlier runs
+abbrev pub IsAfterPast : {D : Type 0} → Bool → (D → Meter) → (D → List ℕ) → (D → List ℕ → Type 0) → Volume → (first : ℕ) → (old : List Event) → OpenedDisks D → Type 0
+IsAfterPast tells meter text image v first old o =
+    (h : List Event) × (new : ℕ → NewDisk) × GoesOnAfter tells meter text image v h new first o × (old ≡ reopened v new o.parts.nodes.items h)
 
 -- the disk in the place of a node that was opened, or that is away for this reason
 abbrev pub disk_in : {D : Type 0} → Arrived D → Option (Missing D) → Option D
@@ -184,3 +218,8 @@ abbrev pub IsPlaceBack : {D : Type 0} → (D → Meter) → (D → List ℕ) →
 IsPlaceBack meter text image None None = Unit {0}
 IsPlaceBack meter text image (Some handed) (Some back) = IsDiskBack meter text image handed back
 IsPlaceBack meter text image handed back = ⊥
+
+-- So what was opened goes back: each disk as it came.
+abbrev pub AreHandedBack : {D : Type 0} → Bool → (D → Meter) → (D → List ℕ) → (D → List ℕ → Type 0) → Type 0
+AreHandedBack {D = D} tells meter text image = (v : Volume) (disks : List (Option D)) (o : OpenedDisks D) → AreOpenedDisks tells meter text image v disks o
+    → AllZip (IsPlaceBack meter text image) disks (disks_in o.parts.nodes.items o.missing.items)

@@ -1,12 +1,13 @@
 //! The disks of a store go back.
-ghost use Rattle.std.specs.Prelude.{◌≡◌, ◌≤◌, length};
+ghost use Rattle.std.specs.Prelude.{◌≡◌, ◌≤◌, true, Some, length};
 ghost use Rattle.std.specs.Vec.{vec_len, vec_capacity};
-ghost use Rattle.rz_metadata.specs.Stands.{disk_of};
+ghost use Rattle.rz_metadata.specs.Stands.{disk_of, is_journaled};
 ghost use Rattle.rz_store_opening.specs.Opening.{disk_in, disks_in};
 
 use crate::disks::{OpenedDisks, Unopened};
 use rz_disk::Disk;
 use rz_journal::JournalFault;
+use rz_metadata::Metadata;
 use rz_nodes::Missing;
 use rz_shared::{Arrived, OpenedParts};
 
@@ -15,8 +16,9 @@ pub(crate) fn hand_back<D: Disk>(opened: OpenedDisks<D>) -> Unopened<D>
     requires count { length opened.missing.items ≡ length opened.parts.nodes.items }
     requires empty { vec_len opened.parts.home ≡ 0 }
     requires room { vec_len opened.parts.nodes ≤ vec_capacity opened.parts.home }
+    requires journaled { is_journaled opened.parts.metadata ≡ true }
     ensures disks { result.disks.items ≡ disks_in opened.parts.nodes.items opened.missing.items }
-    ensures journal { result.journal ≡ disk_of opened.parts.metadata }
+    ensures journal { disk_of opened.parts.metadata ≡ Some result.journal }
     ensures want { result.fault ≡ JournalFault.NoMemory }
 {
     let OpenedDisks { parts, mut missing } = opened;
@@ -33,7 +35,7 @@ pub(crate) fn hand_back<D: Disk>(opened: OpenedDisks<D>) -> Unopened<D>
     drop(missing);
     Unopened {
         disks,
-        journal: metadata.into_disk(),
+        journal: journal_of(metadata),
         fault: JournalFault::NoMemory,
     }
 }
@@ -53,4 +55,15 @@ fn disk_in<D: Disk>(node: Arrived<D>, why: Option<Missing<D>>) -> Option<D>
             Some(Missing::Stale(disk)) => Some(disk),
         },
     }
+}
+
+/// The journal's disk.
+pub(crate) fn journal_of<D: Disk>(metadata: Metadata<D>) -> D
+    requires { is_journaled metadata ≡ true }
+    ensures { disk_of metadata ≡ Some result }
+{
+    let Some(disk) = metadata.into_disk() else {
+        unreachable!()
+    };
+    disk
 }

@@ -1,15 +1,15 @@
 //! The disks of a store are opened.
-ghost use Rattle.std.specs.Prelude.{◌≡◌, ℕ, List, true, IsTrue, IfOk, IfErr, IfSome, IsSome, length};
+ghost use Rattle.std.specs.Prelude.{◌≡◌, List, true, IsTrue, IfOk, IfErr, OnOk, Some, length};
 ghost use Rattle.rz_disk.specs.Meter.{faults};
-ghost use Rattle.rz_events.specs.Volume.{nodes_of};
+ghost use Rattle.rz_events.specs.Volume.{IsVolume, nodes_of};
 ghost use Rattle.rz_events.specs.declared.export.Call.{Call as ACall};
 ghost use Rattle.rz_journal.specs.JournalText.{IsTextOf};
 ghost use Rattle.rz_journal.specs.Kept.{IsExportAfter};
-ghost use Rattle.rz_journal.specs.Opening.{IsJournalRefused};
-ghost use Rattle.rz_metadata.specs.Reopened.{AllTextsOf, IsAsItCame};
-ghost use Rattle.rz_metadata.specs.Stands.{CountsFaults, IsJournalOpen, Stands, disk_of, export_in, is_journaled};
-ghost use Rattle.rz_store_opening.specs.Opening.{AreOpenedDisks};
+ghost use Rattle.rz_metadata.specs.Reopened.{AllTextsOf};
+ghost use Rattle.rz_metadata.specs.Stands.{Stands, disk_of, export_in, is_journaled};
+ghost use Rattle.rz_store_opening.specs.Opening.{AreOpenedDisks, IsOpenedStore, IsUnopened};
 
+use crate::back::journal_of;
 use crate::knowing::known_nodes;
 use crate::rows::Rows;
 use rz_config::Volume;
@@ -33,7 +33,7 @@ pub struct OpenedDisks<D: Disk> {
 pub struct Unopened<D: Disk> {
     /// Those of the nodes.
     pub disks: Vec<Option<D>>,
-    pub journal: Option<D>,
+    pub journal: D,
     /// Why the journal did not open, or want of memory.
     pub fault: JournalFault,
 }
@@ -48,23 +48,16 @@ pub(crate) fn open_disks<D: Disk>(
     journal: D,
 ) -> Result<OpenedDisks<D>, Unopened<D>>
     requires count { length disks.items ≡ length (nodes_of volume.now.clusters) }
-    ensures opened { IfOk result (AreOpenedDisks D.tells D.meter D.text D.image volume.now disks.items) }
-    ensures volume { IfOk result (λ o. (export_in o.parts.metadata).volume ≡ volume.now) }
-    ensures journal { IfOk result (λ o. is_journaled o.parts.metadata ≡ true) }
-    ensures open { IfOk result (λ o. IsJournalOpen o.parts.metadata) }
-    ensures counted { IfOk result (λ o. CountsFaults D.meter (faults (D.meter journal)) o.parts.metadata) }
+    ensures opened { IfOk result (IsOpenedStore D.tells D.meter D.text D.image volume.now disks.items journal) }
     ensures calls { IfOk result (λ o. IsTrue D.tells → (calls : List ACall) → IsTextOf volume.now (D.text journal) calls → IsExportAfter (export_in o.parts.metadata) calls) }
     ensures stands { IfOk result (λ o. IsTrue D.tells → (calls : List ACall) → AllTextsOf volume.now (D.image journal) calls → Stands D.tells D.meter D.image (faults (D.meter journal)) o.parts.metadata calls) }
-    ensures came { IfOk result (λ o. IfSome (disk_of o.parts.metadata) (IsAsItCame D.meter D.text D.image journal)) }
     ensures untouched { IfErr result (λ e. e.disks ≡ disks) }
-    ensures there { IfErr result (λ e. IsSome e.journal) }
-    ensures back { IfErr result (λ e. IfSome e.journal (IsAsItCame D.meter D.text D.image journal)) }
-    ensures refused { IfErr result (λ e. IsJournalRefused D.tells volume.now (D.text journal) e.fault) }
+    ensures unopened { IfErr result (λ e. IsUnopened D.tells D.meter D.text D.image volume.now journal e.journal e.fault) }
 {
     let Ok(copy) = volume.copy(alloc) else {
         return Err(Unopened {
             disks,
-            journal: Some(journal),
+            journal,
             fault: JournalFault::NoMemory,
         });
     };
@@ -72,7 +65,7 @@ pub(crate) fn open_disks<D: Disk>(
         Ok(metadata) => open_nodes(alloc, volume, metadata, disks),
         Err((journal, fault)) => Err(Unopened {
             disks,
-            journal: Some(journal),
+            journal,
             fault,
         }),
     }
@@ -86,10 +79,12 @@ fn open_nodes<D: Disk>(
     disks: Vec<Option<D>>,
 ) -> Result<OpenedDisks<D>, Unopened<D>>
     requires count { length disks.items ≡ length (nodes_of volume.now.clusters) }
+    requires journaled { is_journaled metadata ≡ true }
+    ensures rules { OnOk result (IsVolume volume.now) }
     ensures opened { IfOk result (AreOpenedDisks D.tells D.meter D.text D.image volume.now disks.items) }
     ensures metadata { IfOk result (λ o. o.parts.metadata ≡ metadata) }
     ensures untouched { IfErr result (λ e. e.disks ≡ disks) }
-    ensures back { IfErr result (λ e. e.journal ≡ disk_of metadata) }
+    ensures back { IfErr result (λ e. disk_of metadata ≡ Some e.journal) }
     ensures want { IfErr result (λ e. e.fault ≡ JournalFault.NoMemory) }
 {
     let Ok(known) = known_nodes(alloc, volume, &metadata) else {
@@ -115,13 +110,14 @@ fn open_nodes<D: Disk>(
 
 /// Memory was wanting, and no node's disk was touched.
 fn untouched<D: Disk>(metadata: Metadata<D>, disks: Vec<Option<D>>) -> Unopened<D>
+    requires { is_journaled metadata ≡ true }
     ensures disks { result.disks ≡ disks }
-    ensures journal { result.journal ≡ disk_of metadata }
+    ensures journal { disk_of metadata ≡ Some result.journal }
     ensures want { result.fault ≡ JournalFault.NoMemory }
 {
     Unopened {
         disks,
-        journal: metadata.into_disk(),
+        journal: journal_of(metadata),
         fault: JournalFault::NoMemory,
     }
 }

@@ -1,7 +1,7 @@
 //! What the metadata know of the nodes of a volume.
-ghost use Rattle.std.specs.Prelude.{◌≡◌, ℕ, map, length, IfOk};
+ghost use Rattle.std.specs.Prelude.{◌≡◌, ℕ, map, length, IfOk, OnOk};
 ghost use Rattle.std.specs.List.{AllByRecursion};
-ghost use Rattle.rz_events.specs.Volume.{nodes_of, IsNode};
+ghost use Rattle.rz_events.specs.Volume.{IsVolume, nodes_of};
 ghost use Rattle.rz_events.specs.declared.files.NodeSpec.{NodeSpec as ANode};
 ghost use Rattle.rz_metadata.specs.Stands.{export_in};
 ghost use Rattle.rz_nodes.specs.Arrived.{IsKnown};
@@ -21,6 +21,7 @@ pub(crate) fn known_nodes<D: Disk>(
     metadata: &Metadata<D>,
 ) -> Result<Vec<KnownNode>, AllocError>
     ensures known { IfOk result (λ v. v.items ≡ known_of (export_in metadata.now) (nodes_of volume.now.clusters)) }
+    ensures rules { OnOk result (IsVolume volume.now) }
     ensures proper { IfOk result (λ v. AllByRecursion IsKnown v.items) }
 {
     let nodes = all_nodes(alloc, volume)?;

@@ -1,6 +1,6 @@
 //! From the disks that earlier runs left to the log in which a store goes on.
 ghost use Rattle.rz_store_opening.specs.Opened.{IsOpenedLaw, IsReadyLaw};
-ghost use Rattle.rz_store_opening.specs.Opening.{IsReopeningLaw};
+ghost use Rattle.rz_store_opening.specs.Opening.{AreHandedBack, IsReopeningLaw};
 
 use rz_disk::Disk;
 
@@ -33,3 +33,8 @@ pub fn reopening<D: Disk>()
     rz_log_laws::losses_enrolled();
     rz_log_laws::losses_known();
 }
+
+/// What was opened goes back: each disk in its place, as it came.
+pub fn handed_back<D: Disk>()
+    ensures { AreHandedBack D.tells D.meter D.text D.image }
+{}

@@ -1,15 +1,13 @@
 //! A store is opened after the runs that left its disks.
-ghost use Rattle.std.specs.Prelude.{◌≡◌, ◌≤◌, true, IsTrue, IfOk, IfErr, IfSome, IsSome, length};
+ghost use Rattle.std.specs.Prelude.{◌≡◌, ◌≤◌, true, IsTrue, IfOk, IfErr, Some, length};
 ghost use Rattle.std.specs.List.{AllZip};
 ghost use Rattle.std.specs.Vec.{vec_len, vec_capacity};
 ghost use Rattle.rz_disk.specs.Meter.{faults};
 ghost use Rattle.rz_events.specs.Volume.{nodes_of};
 ghost use Rattle.rz_core.specs.Legal.{IsLegalInRuns};
 ghost use Rattle.rz_chronicle.specs.Kinds.{kind_after};
-ghost use Rattle.rz_journal.specs.Opening.{IsJournalRefused};
-ghost use Rattle.rz_metadata.specs.Reopened.{IsAsItCame};
-ghost use Rattle.rz_metadata.specs.Stands.{CountsFaults, IsJournalOpen, disk_of, export_in, is_journaled};
-ghost use Rattle.rz_store_opening.specs.Opening.{AreLeft, AreOpenedDisks, GoesOnAfter, IsPlaceBack, disks_in, reopened};
+ghost use Rattle.rz_metadata.specs.Stands.{disk_of, is_journaled};
+ghost use Rattle.rz_store_opening.specs.Opening.{AreLeft, GoesOnAfter, IsOpenedStore, IsPlaceBack, IsUnopened, disks_in, reopened};
 
 use crate::back::hand_back;
 use crate::disks::{OpenedDisks, Unopened, open_disks};
@@ -62,20 +60,14 @@ pub fn open_after<P: Past, D: Disk>(
     // Earlier runs with this log left the disks.
     requires left { IsTrue P.known → IsTrue D.tells × AreLeft D.image volume.now P.log P.new disks.items journal }
 
-    ensures opened { IfOk result (λ r. AreOpenedDisks D.tells D.meter D.text D.image volume.now disks.items r.0) }
-    ensures volume { IfOk result (λ r. (export_in r.0.parts.metadata).volume ≡ volume.now) }
-    ensures journal { IfOk result (λ r. is_journaled r.0.parts.metadata ≡ true) }
-    ensures open { IfOk result (λ r. IsJournalOpen r.0.parts.metadata) }
-    ensures counted { IfOk result (λ r. CountsFaults D.meter (faults (D.meter journal)) r.0.parts.metadata) }
+    ensures opened { IfOk result (λ r. IsOpenedStore D.tells D.meter D.text D.image volume.now disks.items journal r.0) }
 
     // The book goes on after their log, in which each node that is here was started, and so do the metadata and the nodes.
     ensures kind { IfOk result (λ r. r.1.tokens.kind ≡ kind_after P.known volume.now (reopened volume.now P.new r.0.parts.nodes.items P.log)) }
     ensures goes_on { IfOk result (λ r. IsTrue P.known → GoesOnAfter D.tells D.meter D.text D.image volume.now P.log P.new (faults (D.meter journal)) r.0) }
 
     ensures back { IfErr result (λ e. AllZip (IsPlaceBack D.meter D.text D.image) disks.items e.disks.items) }
-    ensures there { IfErr result (λ e. IsSome e.journal) }
-    ensures same { IfErr result (λ e. IfSome e.journal (IsAsItCame D.meter D.text D.image journal)) }
-    ensures refused { IfErr result (λ e. IsJournalRefused D.tells volume.now (D.text journal) e.fault) }
+    ensures unopened { IfErr result (λ e. IsUnopened D.tells D.meter D.text D.image volume.now journal e.journal e.fault) }
 {
     crate::laws::reopening::<D>();
     match open_disks(alloc, volume, disks, journal) {
@@ -94,10 +86,11 @@ fn with_book<B: Beginning, D: Disk>(
     requires count { length opened.missing.items ≡ length opened.parts.nodes.items }
     requires empty { vec_len opened.parts.home ≡ 0 }
     requires room { vec_len opened.parts.nodes ≤ vec_capacity opened.parts.home }
+    requires journaled { is_journaled opened.parts.metadata ≡ true }
     ensures opened { IfOk result (λ r. r.0 ≡ opened) }
     ensures kind { IfOk result (λ r. r.1.tokens.kind ≡ kind_after B.honest volume.now B.earlier) }
     ensures disks { IfErr result (λ e. e.disks.items ≡ disks_in opened.parts.nodes.items opened.missing.items) }
-    ensures journal { IfErr result (λ e. e.journal ≡ disk_of opened.parts.metadata) }
+    ensures journal { IfErr result (λ e. disk_of opened.parts.metadata ≡ Some e.journal) }
     ensures want { IfErr result (λ e. e.fault ≡ JournalFault.NoMemory) }
 {
     match NewBook::after::<B>(alloc, volume) {

@@ -1,3 +1,4 @@
 pub mod Runs
 pub mod Soles
 pub mod Took
+pub mod Words

@@ -1,5 +1,6 @@
 -- Who has no operation open.
 use Rattle.std.proofs.Common.{ℕ, true, false, inl, inr, ◌≡◌, ◌+◌, ◌≤◌, ◌<◌, List, [], length, refl, sym, ◌∙◌, ap, subst, arith}
+use Rattle.std.specs.Prelude.{IsTrue}
 use Rattle.std.proofs.lemmas.Bool.{cases_lt}
 use Rattle.rz_events.specs.declared.keys.Actor.{Actor}
 use Rattle.rz_events.specs.declared.keys.Actor.TheVariants.{Client, Rebuilder, Admin}
@@ -17,12 +18,12 @@ use Rattle.rz_core.specs.Own.{IsBetween}
 use Rattle.rz_play_laws.specs.Own.{IsOwnOf}
 use Rattle.rz_block_laws.specs.ActingLaws.{MayDo}
 use Rattle.rz_chronicle.specs.Holds.{HasAllActors, Stays}
-use Rattle.rz_chronicle.specs.Kinds.{HavePlaces, volume_in}
+use Rattle.rz_chronicle.specs.Kinds.{HavePlaces, keeps_legal, volume_in}
 use Rattle.rz_chronicle.specs.Keys.{IsLater}
 use Rattle.rz_chronicle.specs.Laws.{IsAddedAlone}
 use Rattle.rz_chronicle.specs.Rules.{PassView}
 use Rattle.rz_threads_steps.specs.Acted.{IsWorkRight}
-use Rattle.rz_store_turns.specs.Sole.{HoldsAll, AreFree, IsTaken, IsSole, IsInHand, SoleView}
+use Rattle.rz_store_turns.specs.Sole.{HoldsAll, AreFree, IsTaken, IsSole, IsInHand, IsSameTurn, SoleView}
 use Rattle.rz_store_turns.specs.Runs.{GoesAlone}
 
 -- with the tokens of all actors in hand nothing was added while the pass was turned to another one
@@ -112,3 +113,15 @@ hand-then kind earlier s new m m' hand alone layout right = record {
   layout = layout ∙ hand.layout;
   right = right;
 }
+
+pub same-turn : (s : SoleView) (new : PassView) (was : SoleView) → s ≡ was → GoesAlone s.pass new → IsSameTurn was (record { pass = new; number = s.number; client = s.client; rebuilder = s.rebuilder })
+same-turn s new was is alone = record {
+  actor = alone.actor ∙ ap (λ (z : SoleView). z.pass.actor) is;
+  number = ap (λ (z : SoleView). z.number) is;
+  client = ap (λ (z : SoleView). z.client) is;
+  rebuilder = ap (λ (z : SoleView). z.rebuilder) is;
+}
+
+-- what contracts see of it is what it has inside
+pub hand-inside : (kind : List ℕ) (earlier : List Event) (s was : SoleView) (m : Machine) → s ≡ was → IsInHand kind earlier was m → IsInHand kind earlier s m
+hand-inside kind earlier s was m is hand = subst (λ (z : SoleView). IsInHand kind earlier z m) (sym is) hand

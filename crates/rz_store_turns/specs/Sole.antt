@@ -53,8 +53,9 @@ pub record IsInHand (kind : List ℕ) (earlier : List Event) (s : SoleView) (m :
   pub layout : m.layout ≡ (volume_in kind).layout
   pub right : IsTrue (keeps_legal kind) → IsActing (volume_in kind) earlier s.pass.log s.pass.actor s.number m
 
--- the pass alone went on
+-- the pass alone went on, of the same actor
 pub record IsSameTurn (old new : SoleView) : Type 0 where
+  pub actor : new.pass.actor ≡ old.pass.actor
   pub number : new.number ≡ old.number
   pub client : new.client ≡ old.client
   pub rebuilder : new.rebuilder ≡ old.rebuilder

@@ -59,7 +59,7 @@ impl<D: Disk, J: Metering> Sole<D, J> {
         ensures hand { IsInHand J.kind J.earlier self.new machine.new }
         ensures still { OnErr result (IsTrue (keeps_legal J.kind) → self.new.pass.log ≡ self.old.pass.log) }
     {
-        let took = take_turn(
+        match take_turn(
             rt,
             self.alloc,
             &self.shared,
@@ -67,8 +67,7 @@ impl<D: Disk, J: Metering> Sole<D, J> {
             self.number,
             machine,
             &mut self.bins,
-        );
-        match took {
+        ) {
             Ok(()) => Ok(()),
             Err(_) => Err(self.stop(rt)),
         }
@@ -82,7 +81,7 @@ impl<D: Disk, J: Metering> Sole<D, J> {
         ensures hand { IsInHand J.kind J.earlier self.new machine.new }
         ensures word { IsAtWord result (ask_of machine.new.layout machine.new.work) }
     {
-        let took = take_turns(
+        match take_turns(
             rt,
             self.alloc,
             &self.shared,
@@ -90,8 +89,7 @@ impl<D: Disk, J: Metering> Sole<D, J> {
             self.number,
             machine,
             &mut self.bins,
-        );
-        match took {
+        ) {
             Ok(()) => None,
             Err(_) => Some(self.stop(rt)),
         }
@@ -111,9 +109,11 @@ impl<D: Disk, J: Metering> Sole<D, J> {
         Ok(Performed { machine, stopped })
     }
 
-    /// Says the last word of an operation, and lets it go.
+    /// Says the last word of an operation, if it can, and lets it go. Users see nothing of it.
     pub fn conclude<R: Wait>(&mut self, rt: &R, machine: Machine) -> Result<(), Stop>
         requires hand { IsInHand J.kind J.earlier self.old machine }
+        requires word { is_word (ask_of machine.layout machine.work) ≡ true }
+        ensures quiet { IsQuiet J.kind J.earlier self.old self.new }
         ensures said { OnOk result ((saying : ASaying) → ask_of machine.layout machine.work ≡ Say saying → HasSaid J.kind J.earlier self.old self.new machine saying) }
         ensures still { OnErr result (IsTrue (keeps_legal J.kind) → self.new.pass.log ≡ self.old.pass.log) }
     {
@@ -124,16 +124,6 @@ impl<D: Disk, J: Metering> Sole<D, J> {
         self.end(machine);
         self.stands();
         said
-    }
-
-    /// Says the last word of an operation, if it can, and lets it go. Users see nothing of it.
-    pub fn finish<R: Wait>(&mut self, rt: &R, machine: Machine)
-        requires hand { IsInHand J.kind J.earlier self.old machine }
-        requires word { is_word (ask_of machine.layout machine.work) ≡ true }
-        ensures { IsQuiet J.kind J.earlier self.old self.new }
-    {
-        let _said = self.conclude(rt, machine);
-        self.stands();
     }
 
     /// Lets an operation go. Its actor is free again where it is over.

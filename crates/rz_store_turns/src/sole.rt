@@ -10,6 +10,7 @@ ghost use Rattle.rz_store_turns.specs.Sole.{HoldsAll};
 use mj_angles::Layout;
 use rz_chronicle::Pass;
 use rz_disk::Disk;
+use rz_metadata::JournalRefusal;
 use rz_shared::Metering;
 use rz_threads_steps::SharedStore;
 use std::alloc::Global;
@@ -21,9 +22,10 @@ use std::sync::Wait;
 pub enum Stop {
     /// Memory is wanting.
     NoMemory,
-    /// The journal has no room for the change, or its disk failed. No change is kept more, until the store is
-    /// opened again.
-    Journal,
+    /// The journal has no room for a change. No change is kept more, until the store is opened again.
+    JournalFull,
+    /// The journal's disk failed. No change is kept more, until the store is opened again.
+    JournalFailed,
     /// Operations were cut off so often that nobody is left who could do another one, until the store is opened
     /// again.
     Spent,
@@ -91,8 +93,11 @@ impl<D: Disk, J: Metering> Sole<D, J> {
 
     // Why a turn was cut off.
     pub(crate) fn stop<R: Wait>(&self, rt: &R) -> Stop {
-        let _ = rt;
-        Stop::NoMemory
+        match self.shared.cluster.refusal(rt) {
+            Some(JournalRefusal::Full) => Stop::JournalFull,
+            Some(JournalRefusal::Failed) => Stop::JournalFailed,
+            None => Stop::NoMemory,
+        }
     }
 
     /// The log of this run, behind which the earlier one stands, is legal where the book keeps it so.

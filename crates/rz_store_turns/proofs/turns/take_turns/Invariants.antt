@@ -5,8 +5,8 @@ use Rattle.rz_store_turns.proofs.turns.take_turns.Given as goal
 
 abbrev pub invariant-loop : goal.invariant-loop
 invariant-loop g l = record {
-  alone : GoesAlone l.initial.pass l.pass;
-  ran : HasRun g.J.Naming.kind l.number l.initial.pass l.pass l.initial.machine l.machine;
-  layout : l.machine.layout ≡ l.initial.machine.layout;
+  alone : GoesAlone l.fn.pass l.pass;
+  ran : HasRun g.J.Naming.kind l.number l.fn.pass l.pass l.fn.machine l.machine;
+  layout : l.machine.layout ≡ l.fn.machine.layout;
   right : IsWorkRight g.J.Naming.kind g.J.Naming.earlier l.pass l.number l.machine;
 }

@@ -1,0 +1,69 @@
+use Rattle.std.proofs.Common.{◌≡◌, ◌∙◌, ap, subst}
+use Rattle.rz_store_turns.specs.Sole.{IsInHand, SoleView}
+use Rattle.rz_store_turns.specs.Runs.{HasRun}
+use Rattle.rz_store_turns.proofs.Soles.{all-actors, no-admin, sole-then, hand-then, hand-inside, same-turn}
+use Rattle.rz_store_turns.proofs.sole.Sole.go_on.Goals as goal
+
+pub take_turns-requires-clause-actor : goal.take_turns-requires-clause-actor
+take_turns-requires-clause-actor g c =
+    let s : SoleView = record { pass = c.self.inside.pass; number = c.self.inside.number; client = c.self.inside.client; rebuilder = c.self.inside.rebuilder } in
+    no-admin s (hand-inside g.J.Naming.kind g.J.Naming.earlier s c.args.self.now c.args.machine.now c.self.view_is c.requires.hand).taken
+
+pub take_turns-requires-clause-all : goal.take_turns-requires-clause-all
+take_turns-requires-clause-all g c = all-actors c.self.inside.pass.keys c.self.invariant.tokens
+
+pub take_turns-requires-clause-layout : goal.take_turns-requires-clause-layout
+take_turns-requires-clause-layout g c = c.requires.hand.layout
+
+pub take_turns-requires-clause-right : goal.take_turns-requires-clause-right
+take_turns-requires-clause-right g c =
+    let s : SoleView = record { pass = c.self.inside.pass; number = c.self.inside.number; client = c.self.inside.client; rebuilder = c.self.inside.rebuilder } in
+    (hand-inside g.J.Naming.kind g.J.Naming.earlier s c.args.self.now c.args.machine.now c.self.view_is c.requires.hand).right
+
+pub invariant_of-self : goal.invariant_of-self
+invariant_of-self g c =
+    let s : SoleView = record { pass = c.self.inside.pass; number = c.self.inside.number; client = c.self.inside.client; rebuilder = c.self.inside.rebuilder } in
+    let hand = hand-inside g.J.Naming.kind g.J.Naming.earlier s c.args.self.now c.args.machine.now c.self.view_is c.requires.hand in
+    sole-then g.J.Naming.kind g.J.Naming.earlier c.self.inside.shared.volume s c.take_turns.new.pass c.self.inside.bins.items _ c.take_turns.ensures.alone hand.taken ? c.self.invariant
+
+pub invariant_of-self-in-Err : goal.invariant_of-self-in-Err
+invariant_of-self-in-Err g c =
+    let s : SoleView = record { pass = c.self.inside.pass; number = c.self.inside.number; client = c.self.inside.client; rebuilder = c.self.inside.rebuilder } in
+    let hand = hand-inside g.J.Naming.kind g.J.Naming.earlier s c.args.self.now c.args.machine.now c.self.view_is c.requires.hand in
+    sole-then g.J.Naming.kind g.J.Naming.earlier c.self.inside.shared.volume s c.take_turns.new.pass c.self.inside.bins.items _ c.take_turns.ensures.alone hand.taken ? c.self.invariant
+
+pub returns-in-Ok-clause-same : goal.returns-in-Ok-clause-same
+returns-in-Ok-clause-same g c =
+    let s : SoleView = record { pass = c.self.inside.pass; number = c.self.inside.number; client = c.self.inside.client; rebuilder = c.self.inside.rebuilder } in
+    same-turn s c.take_turns.new.pass c.args.self.now c.self.view_is c.take_turns.ensures.alone
+
+pub returns-in-Ok-clause-ran : goal.returns-in-Ok-clause-ran
+returns-in-Ok-clause-ran g c =
+    subst (λ (z : SoleView). HasRun g.J.Naming.kind z.number z.pass c.take_turns.new.pass c.args.machine.now c.take_turns.new.machine) c.self.view_is c.take_turns.ensures.ran
+
+pub returns-in-Ok-clause-hand : goal.returns-in-Ok-clause-hand
+returns-in-Ok-clause-hand g c =
+    let s : SoleView = record { pass = c.self.inside.pass; number = c.self.inside.number; client = c.self.inside.client; rebuilder = c.self.inside.rebuilder } in
+    let hand = hand-inside g.J.Naming.kind g.J.Naming.earlier s c.args.self.now c.args.machine.now c.self.view_is c.requires.hand in
+    hand-then g.J.Naming.kind g.J.Naming.earlier s c.take_turns.new.pass c.args.machine.now c.take_turns.new.machine hand c.take_turns.ensures.alone c.take_turns.ensures.layout c.take_turns.ensures.right
+
+pub returns-in-Err-clause-same : goal.returns-in-Err-clause-same
+returns-in-Err-clause-same g c =
+    let s : SoleView = record { pass = c.self.inside.pass; number = c.self.inside.number; client = c.self.inside.client; rebuilder = c.self.inside.rebuilder } in
+    same-turn s c.take_turns.new.pass c.args.self.now c.self.view_is c.take_turns.ensures.alone
+
+pub returns-in-Err-clause-hand : goal.returns-in-Err-clause-hand
+returns-in-Err-clause-hand g c =
+    let s : SoleView = record { pass = c.self.inside.pass; number = c.self.inside.number; client = c.self.inside.client; rebuilder = c.self.inside.rebuilder } in
+    let hand = hand-inside g.J.Naming.kind g.J.Naming.earlier s c.args.self.now c.args.machine.now c.self.view_is c.requires.hand in
+    hand-then g.J.Naming.kind g.J.Naming.earlier s c.take_turns.new.pass c.args.machine.now c.take_turns.new.machine hand c.take_turns.ensures.alone c.take_turns.ensures.layout c.take_turns.ensures.right
+
+pub returns-in-Err-clause-ran : goal.returns-in-Err-clause-ran
+returns-in-Err-clause-ran g c =
+    subst (λ (z : SoleView). HasRun g.J.Naming.kind z.number z.pass c.take_turns.new.pass c.args.machine.now c.take_turns.new.machine) c.self.view_is c.take_turns.ensures.ran
+
+pub returns-in-Ok-clause-word : goal.returns-in-Ok-clause-word
+returns-in-Ok-clause-word g c = c.in-Ok.ensures.word
+
+pub returns-in-Err-clause-word : goal.returns-in-Err-clause-word
+returns-in-Err-clause-word g c = c.in-Err.ensures.silent
