@@ -2,3 +2,4 @@ pub mod Runs
 pub mod Soles
 pub mod Took
 pub mod Words
+pub mod Gathered

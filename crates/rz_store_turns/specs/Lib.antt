@@ -1,3 +1,4 @@
 pub mod Sole
 pub mod Runs
 pub mod Performed
+pub mod Joined

@@ -6,10 +6,11 @@
 //! what was there. Where memory or the journal is wanting in the middle of an operation nothing is added, and the
 //! operation stays open. Its actor can then do no other, and the next one comes to its place.
 //!
-//! In reading order: `turns`, `sole`, `acts`.
+//! In reading order: `turns`, `sole`, `acts`, `joining`.
 #![tactic(auto)]
 
 mod acts;
+mod joining;
 mod sole;
 mod turns;
 

@@ -1,0 +1,26 @@
+-- What stands on the disks of a store that is let go. `h` is the log of all its runs, which has the newest event first.
+use Rattle.std.specs.Prelude.{ℕ, ◌≡◌, ◌≢◌, ◌⊎◌, ◌++◌, IsTrue, List, [], ◌∷◌, Option, Some, None, IfSome}
+use Rattle.rz_events.specs.Volume.{Volume}
+use Rattle.rz_events.specs.declared.export.Call.{Call}
+use Rattle.rz_events.specs.declared.files.NodeSpec.{NodeSpec}
+use Rattle.rz_events.specs.declared.nodes.Phase.TheVariants.{Lost}
+use Rattle.rz_events.specs.declared.events.Word.TheVariants.{Node}
+use Rattle.rz_events.specs.declared.events.Event.{Event}
+use Rattle.rz_core.specs.History.{of_word}
+use Rattle.rz_core.specs.NodeWord.{phase}
+use Rattle.rz_journal.specs.JournalText.{IsTextOf}
+use Rattle.rz_metadata.specs.declared.journaled.JournalRefusal.{JournalRefusal}
+use Rattle.rz_metadata.specs.declared.journaled.JournalRefusal.TheVariants.{Full, Failed}
+use Rattle.rz_restart_laws.specs.Found.{StandsByLog}
+
+-- The disk of a node that is here: each image stands for what the log says that the node holds. Of the disk of a lost node nothing is
+-- said.
+abbrev pub IsDiskLeft : {D : Type 0} → (D → List ℕ → Type 0) → Volume → List Event → NodeSpec → Option D → Type 0
+IsDiskLeft image v h spec disk = IfSome disk (λ d. phase (of_word (Node spec.sid) h) ≢ Lost → (text : List ℕ) → image d text → StandsByLog v h spec.sid text)
+
+-- The text stands for these calls. Behind a journal that refused one more, it is in some volume, and where the disk failed it may have
+-- that one too.
+abbrev pub IsTextLeft : Volume → Option JournalRefusal → List Call → Call → List ℕ → Type 0
+IsTextLeft v None calls c text = IsTextOf v text calls
+IsTextLeft v (Some Full) calls c text = IsTextOf v text calls
+IsTextLeft v (Some Failed) calls c text = IsTextOf v text calls ⊎ IsTextOf v text (calls ++ c ∷ [])
