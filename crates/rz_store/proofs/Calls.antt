@@ -1,6 +1,6 @@
 -- What calls on names tell, and what they have made of the store.
 use Rattle.std.proofs.Common.{ℕ, Bool, true, false, ◌≡◌, inl, inr, List, [], ◌∷◌, ◌++◌, Option, Some, None, refl, sym, ◌∙◌, ap, subst}
-use Rattle.std.specs.Prelude.{IsTrue, is_none, Result, Ok, Err}
+use Rattle.std.specs.Prelude.{IsTrue, Result, Ok, Err, OnErr, IfOk, IfErr}
 use Rattle.std.specs.Option.{option_map_or, option_or}
 use Rattle.rz_events.specs.Volume.{Volume}
 use Rattle.rz_events.specs.declared.keys.Key.{Key}
@@ -31,6 +31,7 @@ use Rattle.rz_core.specs.Courses.{does}
 use Rattle.rz_chronicle.specs.Kinds.{keeps_legal, volume_in}
 use Rattle.rz_contents.specs.Model.{Model, model_of, export_at, IsSame, StaysStill}
 use Rattle.rz_contents.specs.Files.{is_word, opens_file, Refuses, IsCalled, answer_for, IsCallSeen, IsCallWatched}
+use Rattle.rz_chronicle.specs.Rules.{PassView}
 use Rattle.rz_store_turns.specs.Sole.{SoleView, IsInHand}
 use Rattle.rz_store_turns.specs.Performed.{HasCome, IsQuiet}
 use Rattle.rz_store.specs.declared.faults.NameFault.{NameFault}
@@ -129,6 +130,28 @@ module _ (v : Volume) (before after : List Event) (q : TreeCall) where
   ask-same asks (Ending a) seen = unchanged-names seen.0 seen.1 (asks-same s.tree (new_places s).cid (new_places s).places q asks)
   ask-same asks (_) seen = absurd seen
 
+  -- What is told, by its kind.
+
+  pub change-done : (r : Result (Option ℕ) NameFault) → ChangeTells r → IfOk r (λ made. HasChanged old q made new)
+  change-done (Ok made) is = is
+  change-done (Err f) is = tt
+
+  pub change-undone : (r : Result (Option ℕ) NameFault) → ChangeTells r → OnErr r (LooksSame old new)
+  change-undone (Ok made) is = tt
+  change-undone (Err f) is = is.0
+
+  pub change-cause : (r : Result (Option ℕ) NameFault) → ChangeTells r → IfErr r (λ f. IsNameCause old q f)
+  change-cause (Ok made) is = tt
+  change-cause (Err f) is = is.1
+
+  pub ask-done : (r : Result Answer NameFault) → AskTells r → IfOk r (λ a. HasAsked old q a)
+  ask-done (Ok a) is = is
+  ask-done (Err f) is = tt
+
+  pub ask-cause : (r : Result Answer NameFault) → AskTells r → IfErr r (λ f. IsNameCause old q f)
+  ask-cause (Ok a) is = tt
+  ask-cause (Err f) is = is
+
 -- What users see then changes no more.
 
 then-called : (v : Volume) (before mid after : List Event) (q : TreeCall) (told : TreeReply) → IsSame (model_of v mid) (model_of v after) → IsCalled v before q told mid → IsCalled v before q told after
@@ -176,6 +199,12 @@ module _ (kind : List ℕ) (earlier : List Event) (q : TreeCall) (watched : IsCa
         subst (λ (y : Layout). ChangeStopped v o n q (asks_export (ask_of y m.work))) (sym hand.layout)
         (change-stopped v o n q m.work (seen (shut-of q changes)) (subst (λ (y : Layout). is_word (ask_of y m.work) ≡ false) hand.layout quiet))
 
+    pub change-ended : only_asks q ≡ false → is_word (ask_of m.layout m.work) ≡ false → (last : SoleView) → last.pass ≡ new.pass → (unanswered : Bool) → unanswered ≡ asks_export (ask_of m.layout m.work)
+        → ChangeStopped v o (whole kind earlier last) q unanswered
+    change-ended changes quiet last same unanswered is =
+        subst (ChangeStopped v o (whole kind earlier last) q) (sym is)
+        (subst (λ (p : PassView). ChangeStopped v o (p.log ++ earlier) q (asks_export (ask_of m.layout m.work))) (sym same) (change-cut changes quiet))
+
     pub change-says : only_asks q ≡ false → StaysStill v → (last : SoleView) → is_word (ask_of m.layout m.work) ≡ true → IsQuiet kind earlier new last
         → ChangeTells v o (whole kind earlier last) q (change_told (ask_of m.layout m.work))
     change-says changes still last word quiet =
@@ -197,3 +226,7 @@ module _ (kind : List ℕ) (earlier : List Event) (q : TreeCall) (watched : IsCa
       pub ask-says : is_word (ask_of m.layout m.work) ≡ true → (told : Result Answer NameFault) → IsAskTold (ask_of m.layout m.work) told → AskTells v o n q told
       ask-says word told is =
           ask-either told (subst (λ (y : Layout). IsAskTold (ask_of y m.work) told) hand.layout is) (subst (λ (y : Layout). is_word (ask_of y m.work) ≡ true) hand.layout word)
+
+    pub change-tells : only_asks q ≡ false → StaysStill v → (last : SoleView) → is_word (ask_of m.layout m.work) ≡ true → IsQuiet kind earlier new last → (told : Result (Option ℕ) NameFault)
+        → told ≡ change_told (ask_of m.layout m.work) → ChangeTells v o (whole kind earlier last) q told
+    change-tells changes still last word quiet told is = subst (ChangeTells v o (whole kind earlier last) q) (sym is) (change-says changes still last word quiet)

@@ -1,6 +1,6 @@
 -- What a get tells.
 use Rattle.std.proofs.Common.{ℕ, Bool, true, false, ◌≡◌, ◌==◌, ◌≤◌, inl, inr, List, [], ◌∷◌, ◌++◌, Option, Some, None, cond, refl, sym, ◌∙◌, ap, subst}
-use Rattle.std.specs.Prelude.{IsTrue, slice_index, Result, Ok, Err}
+use Rattle.std.specs.Prelude.{IsTrue, slice_index, Result, Ok, Err, IfOk, IfErr}
 use Rattle.mj_angles.specs.declared.layout.Layout.{Layout}
 use Rattle.rz_events.specs.Volume.{Volume}
 use Rattle.rz_events.specs.declared.keys.Key.{Key}
@@ -143,6 +143,14 @@ module _ (v : Volume) (alone : IsGetAlone v) (caused : AreGetsCaused v) (old xs 
       → is_word (ask_of v.layout work) ≡ true → Said (ask_of v.layout work) → (told : Result (Option (List ℕ)) ReadFault) → IsGetTold found (ask_of v.layout work) told → GetTells told
   get-tells work on seen turns word said told (inl is) = subst GetTells (sym is) (at-word work on seen turns word said)
   get-tells work on seen turns word said told (inr is) = subst GetTells (sym is) tt
+
+  pub get-done : (r : Result (Option (List ℕ)) ReadFault) → GetTells r → IfOk r (λ text. HasGot s-old path block text)
+  get-done (Ok text) is = is
+  get-done (Err f) is = tt
+
+  pub get-cause : (r : Result (Option (List ℕ)) ReadFault) → GetTells r → IfErr r (λ f. IsReadCause s-old path block f)
+  get-cause (Ok text) is = tt
+  get-cause (Err f) is = is
 
 seen-same : (v : Volume) (old now : List Event) (work : Work) → IsGetSeen (model_of v old) (model_of v now) work → IsSame (model_of v old) (model_of v now)
 seen-same v old now (Opening p plan) seen = seen

@@ -213,3 +213,8 @@ module _ (kind : List ℕ) (earlier : List Event) (path text : List ℕ) (block 
         (then-tells v (whole kind earlier old) (whole kind earlier new) (whole kind earlier last) text path block (put_told (ask_of v.layout m.work))
         (quiet-same kind earlier still new last quiet keeps)
         (put-told v (whole kind earlier old) (whole kind earlier new) text path block m.work seen on cause many word-there))
+
+    pub put-tells : ArePutsCaused v → StaysStill v → (last : SoleView) → is_word (ask_of m.layout m.work) ≡ true → IsQuiet kind earlier new last → (told : Result (Unit {0}) WriteFault)
+        → told ≡ put_told (ask_of m.layout m.work) → PutTells v (whole kind earlier old) (whole kind earlier last) text path block told
+    put-tells caused still last word quiet told is =
+        subst (PutTells v (whole kind earlier old) (whole kind earlier last) text path block) (sym is) (put-says caused still last word quiet)

@@ -1,6 +1,6 @@
 -- The log of all runs, which has that of this run on top of the earlier one, after an operation.
 use Rattle.std.proofs.Common.{ℕ, true, false, ◌≡◌, List, [], ◌∷◌, ◌++◌, Option, Some, None, refl, sym, ◌∙◌, ap, subst, append_assoc}
-use Rattle.std.specs.Prelude.{IsTrue}
+use Rattle.std.specs.Prelude.{IsTrue, Result, Ok, Err, OnOk, OnErr, IfOk, IfErr}
 use Rattle.rz_events.specs.Volume.{Volume}
 use Rattle.rz_events.specs.declared.operations.Operation.{Operation}
 use Rattle.rz_events.specs.declared.events.Event.{Event}
@@ -70,8 +70,27 @@ module _ (kind : List ℕ) (earlier : List Event) where
 
 -- What the operation has come to.
 
-pub at-word : (o : Option Stop) (a : Ask) → o ≡ None → IsAtWord o a → is_word a ≡ true
-at-word o a is at = subst (λ (p : Option Stop). IsAtWord p a) is at
+pub at-word : (o : Option Stop) (a : Ask) → ((why : Stop) → o ≡ Some why → ⊥) → IsAtWord o a → is_word a ≡ true
+at-word None a none at = at
+at-word (Some why) a none at = absurd (none why refl)
 
 pub before-word : (o : Option Stop) (why : Stop) (a : Ask) → o ≡ Some why → IsAtWord o a → is_word a ≡ false
 before-word o why a is at = subst (λ (p : Option Stop). IsAtWord p a) is at
+
+-- What is so over a book that keeps its log legal is so of what was told.
+
+pub ok-if : {T E A P : Type 0} (r : Result T E) → (A → OnOk r P) → OnOk r (A → P)
+ok-if (Ok x) so = so
+ok-if (Err e) so = tt
+
+pub err-if : {T E A P : Type 0} (r : Result T E) → (A → OnErr r P) → OnErr r (A → P)
+err-if (Ok x) so = tt
+err-if (Err e) so = so
+
+pub told-if : {T E A : Type 0} (r : Result T E) (P : T → Type 0) → (A → IfOk r P) → IfOk r (λ x. A → P x)
+told-if (Ok x) P so = so
+told-if (Err e) P so = tt
+
+pub cause-if : {T E A : Type 0} (r : Result T E) (P : E → Type 0) → (A → IfErr r P) → IfErr r (λ e. A → P e)
+cause-if (Ok x) P so = tt
+cause-if (Err e) P so = so

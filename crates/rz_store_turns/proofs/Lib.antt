@@ -3,3 +3,4 @@ pub mod Soles
 pub mod Took
 pub mod Words
 pub mod Gathered
+pub mod Leaving

@@ -1,7 +1,8 @@
 -- Who has no operation open.
-use Rattle.std.proofs.Common.{ℕ, true, false, inl, inr, ◌≡◌, ◌+◌, ◌≤◌, ◌<◌, List, [], length, refl, sym, ◌∙◌, ap, subst, arith}
+use Rattle.std.proofs.Common.{ℕ, true, false, inl, inr, ◌≡◌, ◌+◌, ◌≤◌, ◌<◌, List, [], ◌++◌, length, take, drop, refl, sym, ◌∙◌, ap, subst, arith, length-append}
 use Rattle.std.specs.Prelude.{IsTrue}
 use Rattle.std.proofs.lemmas.Bool.{cases_lt}
+use Rattle.std.proofs.lemmas.List.{length-take, length-drop}
 use Rattle.rz_events.specs.declared.keys.Actor.{Actor}
 use Rattle.rz_events.specs.declared.keys.Actor.TheVariants.{Client, Rebuilder, Admin}
 use Rattle.rz_events.specs.declared.operations.Operation.{Operation}
@@ -125,3 +126,11 @@ same-turn s new was is alone = record {
 -- what contracts see of it is what it has inside
 pub hand-inside : (kind : List ℕ) (earlier : List Event) (s was : SoleView) (m : Machine) → s ≡ was → IsInHand kind earlier was m → IsInHand kind earlier s m
 hand-inside kind earlier s was m is hand = subst (λ (z : SoleView). IsInHand kind earlier z m) (sym is) hand
+
+-- the room for a record stays
+pub bins-room : (most size : ℕ) (new old : List ℕ) → size ≡ length old → most ≤ length old → most ≤ length (take size (new ++ drop (length new) old))
+bins-room most size new old is low =
+    let taken = length-take size (new ++ drop (length new) old) in
+    let both = length-append new (drop (length new) old) in
+    let rest = length-drop (length new) old in
+    omega (arith, taken, both, rest, is, low)

@@ -9,6 +9,7 @@ use Rattle.rz_events.specs.declared.events.Event.{Event}
 use Rattle.rz_core.specs.History.{of_word}
 use Rattle.rz_core.specs.NodeWord.{phase}
 use Rattle.rz_journal.specs.JournalText.{IsTextOf}
+use Rattle.rz_metadata.specs.Reopened.{AllTextsOf}
 use Rattle.rz_metadata.specs.declared.journaled.JournalRefusal.{JournalRefusal}
 use Rattle.rz_metadata.specs.declared.journaled.JournalRefusal.TheVariants.{Full, Failed}
 use Rattle.rz_restart_laws.specs.Found.{StandsByLog}
@@ -18,9 +19,9 @@ use Rattle.rz_restart_laws.specs.Found.{StandsByLog}
 abbrev pub IsDiskLeft : {D : Type 0} → (D → List ℕ → Type 0) → Volume → List Event → NodeSpec → Option D → Type 0
 IsDiskLeft image v h spec disk = IfSome disk (λ d. phase (of_word (Node spec.sid) h) ≢ Lost → (text : List ℕ) → image d text → StandsByLog v h spec.sid text)
 
--- The text stands for these calls. Behind a journal that refused one more, it is in some volume, and where the disk failed it may have
--- that one too.
-abbrev pub IsTextLeft : Volume → Option JournalRefusal → List Call → Call → List ℕ → Type 0
-IsTextLeft v None calls c text = IsTextOf v text calls
-IsTextLeft v (Some Full) calls c text = IsTextOf v text calls
-IsTextLeft v (Some Failed) calls c text = IsTextOf v text calls ⊎ IsTextOf v text (calls ++ c ∷ [])
+-- The journal's disk: each image stands for these calls. Behind a journal that refused one more, it is in some volume, and where the disk
+-- failed the image may have that one too.
+abbrev pub IsJournalLeft : {D : Type 0} → (D → List ℕ → Type 0) → Volume → Option JournalRefusal → List Call → D → Type 0
+IsJournalLeft image v None calls d = AllTextsOf v (image d) calls
+IsJournalLeft image v (Some Full) calls d = (some : Volume) × AllTextsOf some (image d) calls
+IsJournalLeft image v (Some Failed) calls d = (some : Volume) × (refused : Call) × ((text : List ℕ) → image d text → IsTextOf some text calls ⊎ IsTextOf some text (calls ++ refused ∷ []))

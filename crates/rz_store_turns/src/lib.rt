@@ -6,13 +6,15 @@
 //! what was there. Where memory or the journal is wanting in the middle of an operation nothing is added, and the
 //! operation stays open. Its actor can then do no other, and the next one comes to its place.
 //!
-//! In reading order: `turns`, `sole`, `acts`, `joining`.
+//! In reading order: `turns`, `sole`, `acts`, `joining`, `closing`.
 #![tactic(auto)]
 
 mod acts;
+mod closing;
 mod joining;
 mod sole;
 mod turns;
 
 pub use acts::Performed;
+pub use closing::ClosedStore;
 pub use sole::{Sole, Stop};

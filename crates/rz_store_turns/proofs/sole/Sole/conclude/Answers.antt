@@ -8,12 +8,12 @@ use Rattle.rz_store_turns.proofs.sole.Sole.conclude.Goals as goal
 
 pub returns-clause-quiet : goal.returns-clause-quiet
 returns-clause-quiet g c =
-    is-quiet g.J.Naming.kind g.J.Naming.earlier c.args.self.now c.turn-said.new.self c.end.new.self c.args.machine c.turn-said.new.machine c.end.ensures c.stands-2.ensures.legal
+    is-quiet g.J.Naming.kind g.J.Naming.earlier c.args.self.now c.turn-said.new.self c.end.new.self c.args.machine c.turn-said.new.machine c.end.ensures.pass c.stands-2.ensures.legal
     c.turn-said.result c.turn-said.ensures.turned c.turn-said.ensures.still c.requires.word
 
 pub returns-clause-said : goal.returns-clause-said
 returns-clause-said g c =
-    has-said g.J.Naming.kind g.J.Naming.earlier c.args.self.now c.turn-said.new.self c.end.new.self c.args.machine c.turn-said.new.machine c.end.ensures c.stands-2.ensures.legal
+    has-said g.J.Naming.kind g.J.Naming.earlier c.args.self.now c.turn-said.new.self c.end.new.self c.args.machine c.turn-said.new.machine c.end.ensures.pass c.stands-2.ensures.legal
     c.turn-said.result c.turn-said.ensures.turned
     (λ saying asked legal.
     c.says.ensures (volume_in g.J.Naming.kind) g.J.Naming.earlier c.args.self.now.pass.log c.args.self.now.pass.actor c.args.self.now.number c.args.machine saying
@@ -23,5 +23,5 @@ pub returns-clause-still : goal.returns-clause-still
 returns-clause-still g c =
     on_err_weaker c.turn-said.result
     (λ (still : IsTrue (keeps_legal g.J.Naming.kind) → c.turn-said.new.self.pass.log ≡ c.args.self.now.pass.log) (legal : IsTrue (keeps_legal g.J.Naming.kind)).
-    ap (λ (p : PassView). p.log) c.end.ensures ∙ still legal)
+    ap (λ (p : PassView). p.log) c.end.ensures.pass ∙ still legal)
     c.turn-said.ensures.still

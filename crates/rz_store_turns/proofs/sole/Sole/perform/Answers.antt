@@ -9,7 +9,7 @@ returns-in_err-machine-clause-none g c = on-err c.from_residual.result c.in_err-
 
 pub returns-clause-came : goal.returns-clause-came
 returns-clause-came g c =
-    has-come g.J.Naming.kind g.J.Naming.earlier c.args.op c.args.self.now c.begin-machine.new.self c.go_on-stopped.new.self c.in_ok-machine.machine c.go_on-stopped.new.machine
+    has-come g.J.Naming.kind g.J.Naming.earlier c.args.op c.args.self.now c.begin.new.self c.go_on-stopped.new.self c.in_ok-machine.machine c.go_on-stopped.new.machine
     c.in_ok-machine.ensures.log c.in_ok-machine.ensures.begun c.in_ok-machine.ensures.hand.layout c.go_on-stopped.ensures.same c.go_on-stopped.ensures.ran c.stands.ensures.legal
 
 pub returns-clause-word : goal.returns-clause-word
