@@ -2,3 +2,4 @@ pub mod Store
 pub mod Causes
 pub mod Outcomes
 pub mod Names
+pub mod Opened

@@ -85,23 +85,25 @@ pub metadata-at : {D : Type 0} (tells : Bool) (meter : D → Meter) (image : D �
 metadata-at tells meter image counted kind earlier p m log is settled from = from log settled.0 (settled-export p log is settled)
 
 module _ {D : Type 0} (tells : Bool) (meter : D → Meter) (image : D → List ℕ → Type 0) (counted : ℕ) (kind : List ℕ) (h : List Event) (legal : IsTrue (keeps_legal kind)) (told : IsTrue tells) where
+  abbrev Left : Behind D → Option JournalRefusal → Call → Type 0
+  Left j why c = IsLeftBy why (IsJournalKept tells meter image counted j (changing_calls h)) tells (image j.journal.disk) counted (faults (meter j.journal.disk)) j.journal.export (changing_calls h) c
+
   by-refusal : (j : Behind D) (why : Option JournalRefusal) → j.refusal ≡ why → AreMetadataOf why tells meter image counted kind h (Journaled j) → IsJournalLeft image (volume_in kind) why (changing_calls h) j.journal.disk
   by-refusal j None is m =
       let of : j.journal.export.volume ≡ volume_in kind = ap (λ (s : ExportState). s.volume) (m.tied legal) ∙ same-volume (volume_in kind) (facts h) (of_word Export h) in
       subst (λ (v : Volume). AllTextsOf v (image j.journal.disk) (changing_calls h)) of ((m.stands legal).images told)
   by-refusal j (Some Full) is m =
-      let left = subst (λ (why : Option JournalRefusal). Left why (m legal).0) is (m legal).1 in
-      (j.journal.export.volume, left.1.1 told)
-    where
-      abbrev Left : Option JournalRefusal → Call → Type 0
-      Left why c = IsLeftBy why (IsJournalKept tells meter image counted j (changing_calls h)) tells (image j.journal.disk) counted (faults (meter j.journal.disk)) j.journal.export (changing_calls h) c
+      let left = subst (λ (why : Option JournalRefusal). Left j why (m legal).0) is (m legal).1 in
+      (j.journal.export.volume, left.2 told)
   by-refusal j (Some Failed) is m =
-      let left = subst (λ (why : Option JournalRefusal). Left why (m legal).0) is (m legal).1 in
+      let left = subst (λ (why : Option JournalRefusal). Left j why (m legal).0) is (m legal).1 in
       (j.journal.export.volume, (m legal).0, left.1 told)
-    where
-      abbrev Left : Option JournalRefusal → Call → Type 0
-      Left why c = IsLeftBy why (IsJournalKept tells meter image counted j (changing_calls h)) tells (image j.journal.disk) counted (faults (meter j.journal.disk)) j.journal.export (changing_calls h) c
 
   pub journal-left : (m : Metadata D) → AreMetadataOf (refusal_of m) tells meter image counted kind h m → IfSome (disk_of m) (IsJournalLeft image (volume_in kind) (refusal_of m) (changing_calls h))
   journal-left (InMemory s) are = tt
   journal-left (Journaled j) are = by-refusal j j.refusal refl are
+
+  pub journal-there : (m : Metadata D) (d : Option D) (why : Option JournalRefusal) → d ≡ disk_of m → why ≡ refusal_of m → AreMetadataOf (refusal_of m) tells meter image counted kind h m → IfSome d (IsJournalLeft image (volume_in kind) why (changing_calls h))
+  journal-there m d why is same are =
+      subst (λ (w : Option JournalRefusal). IfSome d (IsJournalLeft image (volume_in kind) w (changing_calls h))) (sym same)
+      (subst (λ (x : Option D). IfSome x (IsJournalLeft image (volume_in kind) (refusal_of m) (changing_calls h))) (sym is) (journal-left m are))

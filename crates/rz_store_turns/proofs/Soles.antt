@@ -94,11 +94,12 @@ all-actors ks all a member = (all a member).0
 pub no-admin : (s : SoleView) → IsTaken s s.pass.actor → ¬ (s.pass.actor ≡ Admin)
 no-admin s taken is = absurd (subst (IsTaken s) is taken)
 
-pub sole-then : (kind : List ℕ) (earlier : List Event) (volume : Volume) (s : SoleView) (new : PassView) (bins bins' : List ℕ) → GoesAlone s.pass new → IsTaken s s.pass.actor
-    → max_bins_of (volume_in kind).layout ≤ length bins' → IsSole kind earlier volume s bins
-    → IsSole kind earlier volume (record { pass = new; number = s.number; client = s.client; rebuilder = s.rebuilder }) bins'
-sole-then kind earlier volume s new bins bins' alone taken room is = record {
+pub sole-then : (kind : List ℕ) (earlier : List Event) (volume cluster : Volume) (s : SoleView) (new : PassView) (bins bins' : List ℕ) → GoesAlone s.pass new → IsTaken s s.pass.actor
+    → max_bins_of (volume_in kind).layout ≤ length bins' → IsSole kind earlier volume cluster s bins
+    → IsSole kind earlier volume cluster (record { pass = new; number = s.number; client = s.client; rebuilder = s.rebuilder }) bins'
+sole-then kind earlier volume cluster s new bins bins' alone taken room is = record {
   volume_is = is.volume_is;
+  cluster_is = is.cluster_is;
   tokens = subst HoldsAll (sym alone.keys) is.tokens;
   room = room;
   texts = is.texts;

@@ -32,8 +32,9 @@ pub record AreFree (h : List Event) (client rebuilder : ℕ) : Type 0 where
   pub rebuilders : (n : ℕ) → rebuilder ≤ n → IsBetween (of_actor (Rebuilder n) h)
 
 -- What holds of it whenever it is in hand: `bins` has room for a record.
-pub record IsSole (kind : List ℕ) (earlier : List Event) (volume : Volume) (s : SoleView) (bins : List ℕ) : Type 0 where
+pub record IsSole (kind : List ℕ) (earlier : List Event) (volume cluster : Volume) (s : SoleView) (bins : List ℕ) : Type 0 where
   pub volume_is : volume ≡ volume_in kind
+  pub cluster_is : cluster ≡ volume_in kind
   pub tokens : HoldsAll s.pass.keys
   pub room : max_bins_of (volume_in kind).layout ≤ length bins
   pub texts : IsTrue (keeps_legal kind) → AreBytes (facts earlier)

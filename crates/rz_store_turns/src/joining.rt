@@ -61,6 +61,7 @@ impl<D: Disk, J: Metering> Sole<D, J> {
         bins: Vec<u64>,
     ) -> Sole<D, J>
         requires volume { shared.volume ≡ volume_in J.kind }
+        requires cluster { shared.cluster ≡ volume_in J.kind }
         requires admin { admin ≡ new_pass a.Admin }
         requires clients { ArePasses 64 (λ i. a.Client (i + 1)) clients.items }
         requires rebuilders { ArePasses 16 (λ i. a.Rebuilder (i + 1)) rebuilders.items }

@@ -9,6 +9,7 @@ ghost use Rattle.rz_store_turns.specs.Sole.{HoldsAll};
 
 use mj_angles::Layout;
 use rz_chronicle::Pass;
+use rz_config::Volume;
 use rz_disk::Disk;
 use rz_metadata::JournalRefusal;
 use rz_shared::Metering;
@@ -50,7 +51,7 @@ impl<D: Disk, J: Metering> Model for Sole<D, J> {
 
     ghost view = { λ s. record { pass = s.pass; number = s.number; client = s.client; rebuilder = s.rebuilder } };
 
-    ghost invariant = { λ s. IsSole J.kind J.earlier s.shared.volume (record { pass = s.pass; number = s.number; client = s.client; rebuilder = s.rebuilder }) s.bins.items };
+    ghost invariant = { λ s. IsSole J.kind J.earlier s.shared.volume s.shared.cluster (record { pass = s.pass; number = s.number; client = s.client; rebuilder = s.rebuilder }) s.bins.items };
 }
 
 impl<D: Disk, J: Metering> Sole<D, J> {
@@ -62,6 +63,7 @@ impl<D: Disk, J: Metering> Sole<D, J> {
         bins: Vec<u64>,
     ) -> Sole<D, J>
         requires volume { shared.volume ≡ volume_in J.kind }
+        requires cluster { shared.cluster ≡ volume_in J.kind }
         requires fresh { pass.log ≡ [] }
         requires tokens { HoldsAll pass.keys }
         requires room { max_bins_of (volume_in J.kind).layout ≤ length bins.items }
@@ -82,6 +84,13 @@ impl<D: Disk, J: Metering> Sole<D, J> {
     /// Where it takes memory.
     pub fn alloc(&self) -> Global {
         self.alloc
+    }
+
+    /// The volume.
+    pub fn volume(&self) -> &Volume
+        ensures { result.now ≡ volume_in J.kind }
+    {
+        &self.shared.volume
     }
 
     /// The layout of the volume.

@@ -21,6 +21,7 @@ invariant_of-self g c =
     c.turn_to.ensures.later c.turn_to.ensures.stays in
     record {
       volume_is = c.self.invariant.volume_is;
+      cluster_is = c.self.invariant.cluster_is;
       tokens = subst HoldsAll (sym c.turn_to.ensures.same.1) c.self.invariant.tokens;
       room = c.self.invariant.room;
       texts = c.self.invariant.texts;

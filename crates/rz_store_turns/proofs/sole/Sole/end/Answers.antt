@@ -25,6 +25,7 @@ invariant_of-self g c =
     let last : c.in-Client.client + 1 ≡ s.client = subst (IsTaken s) actor hand.taken in
     record {
       volume_is = c.self.invariant.volume_is;
+      cluster_is = c.self.invariant.cluster_is;
       tokens = c.self.invariant.tokens;
       room = c.self.invariant.room;
       texts = c.self.invariant.texts;
@@ -44,6 +45,7 @@ invariant_of-self-in-Rebuilder g c =
     let last : c.in-Rebuilder.rebuilder + 1 ≡ s.rebuilder = subst (IsTaken s) actor hand.taken in
     record {
       volume_is = c.self.invariant.volume_is;
+      cluster_is = c.self.invariant.cluster_is;
       tokens = c.self.invariant.tokens;
       room = c.self.invariant.room;
       texts = c.self.invariant.texts;

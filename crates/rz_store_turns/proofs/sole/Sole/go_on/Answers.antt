@@ -24,14 +24,14 @@ pub invariant_of-self : goal.invariant_of-self
 invariant_of-self g c =
     let s : SoleView = record { pass = c.self.inside.pass; number = c.self.inside.number; client = c.self.inside.client; rebuilder = c.self.inside.rebuilder } in
     let hand = hand-inside g.J.Naming.kind g.J.Naming.earlier s c.args.self.now c.args.machine.now c.self.view_is c.requires.hand in
-    sole-then g.J.Naming.kind g.J.Naming.earlier c.self.inside.shared.volume s c.take_turns.new.pass c.self.inside.bins.items _ c.take_turns.ensures.alone hand.taken
+    sole-then g.J.Naming.kind g.J.Naming.earlier c.self.inside.shared.volume c.self.inside.shared.cluster s c.take_turns.new.pass c.self.inside.bins.items _ c.take_turns.ensures.alone hand.taken
     (bins-room _ c.self.inside.bins.len c.take_turns.new.bins c.self.inside.bins.items c.self.inside.bins.ok.0 c.self.invariant.room) c.self.invariant
 
 pub invariant_of-self-in-Err : goal.invariant_of-self-in-Err
 invariant_of-self-in-Err g c =
     let s : SoleView = record { pass = c.self.inside.pass; number = c.self.inside.number; client = c.self.inside.client; rebuilder = c.self.inside.rebuilder } in
     let hand = hand-inside g.J.Naming.kind g.J.Naming.earlier s c.args.self.now c.args.machine.now c.self.view_is c.requires.hand in
-    sole-then g.J.Naming.kind g.J.Naming.earlier c.self.inside.shared.volume s c.take_turns.new.pass c.self.inside.bins.items _ c.take_turns.ensures.alone hand.taken
+    sole-then g.J.Naming.kind g.J.Naming.earlier c.self.inside.shared.volume c.self.inside.shared.cluster s c.take_turns.new.pass c.self.inside.bins.items _ c.take_turns.ensures.alone hand.taken
     (bins-room _ c.self.inside.bins.len c.take_turns.new.bins c.self.inside.bins.items c.self.inside.bins.ok.0 c.self.invariant.room) c.self.invariant
 
 pub returns-in-Ok-clause-same : goal.returns-in-Ok-clause-same

@@ -8,6 +8,7 @@ use Rattle.rz_store_turns.proofs.sole.Sole.new.Goals as goal
 pub invariant_of-result : goal.invariant_of-result
 invariant_of-result g c = record {
   volume_is = c.requires.volume;
+  cluster_is = c.requires.cluster;
   tokens = c.requires.tokens;
   room = c.requires.room;
   texts = c.requires.texts;

@@ -1,0 +1,6 @@
+use Rattle.rz_store_opening.specs.Opening.{reopened}
+use Rattle.rz_store.proofs.Closing.{same-seen}
+use Rattle.rz_store.proofs.opening.seen_again.Goals as goal
+
+pub returns : goal.returns
+returns g c = λ v h new first o goes. same-seen v h (reopened v new o.parts.nodes.items h) goes.nodes.facts_are goes.nodes.export_word
