@@ -1,5 +1,5 @@
 -- Disks that were formatted are such as no run has left yet.
-use Rattle.std.proofs.Common.{ℕ, Bool, true, ◌≡◌, ◌≤◌, List, [], ◌∷◌, map, length, Option, Some, None, IsTrue, inl, refl, sym, ◌∙◌, ap, subst, arith}
+use Rattle.std.proofs.Common.{ℕ, Bool, ◌≡◌, ◌≤◌, List, [], ◌∷◌, map, length, Option, Some, None, IsTrue, inl, refl, sym, ap, subst, arith}
 use Rattle.std.specs.Prelude.{IfSome}
 use Rattle.std.specs.List.{AllByRecursion, AllZip, zip}
 use Rattle.mj_angles.specs.Layout.{bsize_of}
@@ -24,7 +24,7 @@ use Rattle.rz_nodes.specs.declared.formatting.Server.{Server}
 use Rattle.rz_nodes.specs.declared.fault.DriverFault.{DriverFault}
 use Rattle.rz_nodes.specs.declared.fault.DriverFault.TheVariants as driver
 use Rattle.rz_nodes.specs.Formatted as nodes
-use Rattle.rz_nodes.specs.Formatted.{AreBack, IsBack, IsNodeFormatted, disks_of, geometry_of}
+use Rattle.rz_nodes.specs.Formatted.{AreFormatted, IsBack, IsNodeFormatted, disks_of, geometry_of}
 use Rattle.rz_nodes.proofs.FormatLemmas.{new-back}
 use Rattle.rz_nodes.proofs.Rowwise.{zip-map}
 use Rattle.rz_restart_laws.specs.Earlier.{numbers}
@@ -90,6 +90,11 @@ lasts-on meter first (InMemory s) d counted at = absurd (cc)
 lasts-on {D = D} meter first (Journaled j) d counted at = let same : j.journal.disk ≡ d = cc in subst (λ (e : D). first ≤ faults (meter e)) same counted.lasts
 
 -- ---- as the functions say it
+
+pub as-made : {D : Type 0} (tells : Bool) (meter : D → Meter) (text : D → List ℕ) (image : D → List ℕ → Type 0) (layout layout' : Layout) (nodes nodes' : List NodeSpec) (disks : List D) (servers : List (Server (UnderFuse D)))
+    → layout ≡ layout' → nodes ≡ nodes' → AreFormatted tells meter text image layout nodes disks servers → AreFormatted tells meter text image layout' nodes' disks servers
+as-made tells meter text image layout layout' nodes nodes' disks servers same are made =
+    subst (λ (l : Layout). AreFormatted tells meter text image l nodes' disks servers) same (subst (λ (ns : List NodeSpec). AreFormatted tells meter text image layout ns disks servers) are made)
 
 pub some-disks : {D : Type 0} (servers : List (Server (UnderFuse D))) → map (λ (s : Server (UnderFuse D)). Some s.node.disk.disk) servers ≡ map (λ (d : D). Some d) (disks_of servers)
 some-disks [] = refl

@@ -1,12 +1,12 @@
 -- Rows that are taken from their ends.
-use Rattle.std.proofs.Common.{ℕ, ◌≡◌, ◌+◌, ◌<◌, List, [], ◌∷◌, ◌++◌, map, reverse, length, get_or, Option, Some, None, IsSome, refl, sym, ◌∙◌, ap, ap₂, arith, append_assoc}
+use Rattle.std.proofs.Common.{◌≡◌, ◌<◌, List, [], ◌∷◌, ◌++◌, map, reverse, length, get_or, Option, Some, None, IsSome, refl, sym, ◌∙◌, ap, ap₂, arith, append_assoc}
 use Rattle.std.specs.Option.{option_flatten, option_to_list}
 use Rattle.std.proofs.lemmas.List.{append-nil, reverse-append}
 use Rattle.rz_nodes.specs.declared.arriving.KnownNode.{KnownNode}
 use Rattle.rz_nodes.specs.declared.arriving.Arrival.{Arrival}
 use Rattle.rz_nodes.specs.declared.arriving.Missing.{Missing}
 use Rattle.rz_shared.specs.declared.seating.Arrived.{Arrived}
-use Rattle.rz_store_opening.specs.Opening.{arrived_at, arrived_by, disk_in, disks_in, missing_in}
+use Rattle.rz_store_opening.specs.Opening.{arrived_at, arrived_by, disk_in, disks_in}
 
 -- one goes from the end of a row, of which something is said, to the end of a pile
 one-out : {B : Type 0} (said said' pile pile' whole : List B) (y : B) → said ≡ said' ++ y ∷ [] → pile' ≡ pile ++ y ∷ [] → said ++ reverse pile ≡ whole → said' ++ reverse pile' ≡ whole

@@ -13,7 +13,6 @@ use Rattle.rz_events.specs.declared.events.Word.TheVariants.{Node}
 use Rattle.rz_node_model.specs.States.{fresh}
 use Rattle.rz_export_model.specs.Export.{Export as ExportState, fence_of}
 use Rattle.rz_core.specs.NodeRows.{IsNodeOf}
-use Rattle.rz_core.specs.Legal.{IsLegalInRuns}
 use Rattle.rz_node_laws.specs.Images.{geometry_in}
 use Rattle.rz_metadata.specs.Enrolled.{loss_of}
 use Rattle.rz_metadata.specs.Stands.{export_in}
@@ -23,7 +22,6 @@ use Rattle.rz_nodes.specs.declared.formatting.Server.{Server}
 use Rattle.rz_nodes.specs.declared.arriving.KnownNode.{KnownNode}
 use Rattle.rz_nodes.specs.declared.arriving.Arrival.{Arrival}
 use Rattle.rz_nodes.specs.declared.arriving.Arrival.TheVariants as arrival
-use Rattle.rz_nodes.specs.declared.arriving.Missing.{Missing}
 use Rattle.rz_restart_laws.specs.Earlier.{numbers}
 use Rattle.rz_restart_laws.specs.Returns.{AreBack, replaced}
 use Rattle.rz_chronicle.specs.Dealing.{new_word_token}
@@ -36,7 +34,7 @@ use Rattle.rz_shared.specs.declared.seating.Arrived.TheVariants as arrived
 use Rattle.rz_shared.specs.Seating.{IsArrivedReady, IsNodeReady, unfused}
 use Rattle.rz_shared.proofs.Readiness.{IsDescribed, described, word_token_of, word_tokens-are}
 use Rattle.rz_store_opening.specs.Opened.{IsReadyLaw}
-use Rattle.rz_store_opening.specs.Opening.{AreOpenedDisks, IsAfterPast, IsBackAt, IsOpenedOnSome, IsReopened, arrived_by, here_in, known_of, missing_in, nodes_in, reopened}
+use Rattle.rz_store_opening.specs.Opening.{AreOpenedDisks, IsAfterPast, IsBackAt, IsOpenedOnSome, IsReopened, arrived_by, here_in, known_of, nodes_in}
 use Rattle.rz_store_opening.specs.declared.disks.OpenedDisks.{OpenedDisks}
 
 -- ---- how many they are
@@ -133,16 +131,16 @@ module _ {D : Type 0} (tells : Bool) (meter : D → Meter) (text : D → List �
 
   module _ (j : ℕ) (o : OpenedDisks D) where
     pub reopened-on : (past : IsAfterPast tells meter text image v j old o) → IsReopened meter text image v past.0 (replaced past.1 (numbers v) past.0) old (export_in o.parts.metadata) o.parts.nodes.items
-    reopened-on past = subst (λ (l : List Event). IsReopened meter text image v past.0 (replaced past.1 (numbers v) past.0) l (export_in o.parts.metadata) o.parts.nodes.items) (sym past.2.1) past.2.0.nodes
+    reopened-on past = subst (λ (l : List Event). IsReopened meter text image v past.0 (replaced past.1 (numbers v) past.0) l (export_in o.parts.metadata) o.parts.nodes.items) (sym past.3) past.2.nodes
 
     pub are-ready : (ready : IsReadyLaw tells meter text image) (first : ℕ → ℕ) → ((n : ℕ) → first n ≡ 0) → (counted : Option ℕ) → IsOpenedOnSome tells meter text image v counted o → (IsTrue (keeps_legal kind) → IsAfterPast tells meter text image v j old o)
         → (word_tokens : List WordTokenView) → word_tokens ≡ map (λ n. new_word_token (Node n)) (sids_of v) → AllZip (IsArrivedReady tells meter image kind old first) o.parts.nodes.items word_tokens
     are-ready ready first none counted opened past word_tokens is =
-        let it = opened.2.1 in
+        let it = opened.3 in
         let s = export_in o.parts.metadata in
         let specs = nodes_of v.clusters in
         let by-log : IsTrue (keeps_legal kind) → IsTrue tells × AllByRecursion IsByLog (arrived_by (known_of s specs) it.nodes.arrivals) = λ keeps.
-        (let on = reopened-on (past keeps) in let told = (past keeps).2.0.told in (
+        (let on = reopened-on (past keeps) in let told = (past keeps).2.told in (
           told,
           subst (λ (ns : List (Arrived D)). AllByRecursion IsByLog ns) it.nodes.nodes
               (all-by-log ready keeps told (replaced (past keeps).1 (numbers v) (past keeps).0) s o.parts.nodes.items on.back o.parts.nodes.items on.each),
@@ -156,5 +154,5 @@ pub goes-legal : (kind : List ℕ) → IsTrue (goes_on kind) → IsTrue (keeps_l
 goes-legal kind on = go (keeps_legal kind) on
   where
     go : (b : Bool) → IsTrue (b && not (is_none (earlier_in kind))) → IsTrue b
-    go true yes = refl
-    go false no = absurd (cc)
+    go true is = refl
+    go false never = absurd (cc)

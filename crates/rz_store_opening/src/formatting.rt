@@ -1,9 +1,9 @@
 //! The disks of a new store are formatted.
-ghost use Rattle.std.specs.Prelude.{◌≡◌, ◌≤◌, ℕ, List, [], map, IsTrue, IfOk, IfErr, Some, length};
+ghost use Rattle.std.specs.Prelude.{◌≡◌, ◌≤◌, ℕ, List, [], map, IsTrue, IfOk, IfErr, OnOk, Some, length};
 ghost use Rattle.std.specs.List.{AllByRecursion, AllZip, zip};
 ghost use Rattle.std.specs.Vec.{vec_len, vec_capacity};
 ghost use Rattle.rz_disk.specs.Meter.{faults};
-ghost use Rattle.rz_events.specs.Volume.{IsNode, nodes_of};
+ghost use Rattle.rz_events.specs.Volume.{IsNode, IsVolume, nodes_of};
 ghost use Rattle.rz_metadata.specs.Reopened.{AllTextsOf};
 ghost use Rattle.rz_nodes.specs.Formatted.{AreBack, AreFormatted, disks_of};
 ghost use Rattle.rz_restart_laws.specs.Returns.{NewDisk};
@@ -11,7 +11,7 @@ ghost use Rattle.rz_store_opening.specs.NewStores.{IsCause, IsFormattedDisk, IsJ
 ghost use Rattle.rz_store_opening.specs.Opening.{AreLeft};
 
 use crate::back::journal_of;
-use rz_cells::FormatFault;
+use rz_cells_slots::FormatFault;
 use rz_config::Volume;
 use rz_disk::{Disk, Fused};
 use rz_events::NodeSpec;
@@ -93,6 +93,7 @@ pub fn format_disks<D: Disk>(
 fn new_parts<D: Disk>(alloc: Global, volume: &Volume) -> Result<NewParts<D>, AllocError>
     ensures volume { IfOk result (λ p. p.volume ≡ volume.now) }
     ensures nodes { IfOk result (λ p. p.nodes.items ≡ nodes_of volume.now.clusters) }
+    ensures rules { OnOk result (IsVolume volume.now) }
     ensures proper { IfOk result (λ p. AllByRecursion IsNode p.nodes.items) }
     ensures room { IfOk result (λ p. (vec_len p.row ≡ 0) × (vec_len p.nodes ≤ vec_capacity p.row)) }
 {

@@ -1,4 +1,4 @@
-use Rattle.std.proofs.Common.{◌≡◌, ◌+◌, ◌<◌, ◌++◌, Option, length, reverse, ◌∙◌, ap, arith, vec_len}
+use Rattle.std.proofs.Common.{◌≡◌, ◌<◌, Option, length, ◌∙◌, ap, arith, vec_len}
 use Rattle.rz_nodes.specs.declared.arriving.Missing.{Missing}
 use Rattle.rz_store_opening.specs.Opening.{disk_in, disks_in}
 use Rattle.rz_store_opening.proofs.InOrder.{disk-out, last-out, none-out}

@@ -1,4 +1,4 @@
-use Rattle.std.proofs.Common.{◌≡◌, ◌++◌, ◌∷◌, [], Option, Some, length, map, reverse, ◌∙◌, ap, arith, vec_len}
+use Rattle.std.proofs.Common.{◌≡◌, ◌++◌, ◌∷◌, [], Some, length, map, ◌∙◌, ap, arith, vec_len}
 use Rattle.rz_disk.specs.UnderFuse.{UnderFuse}
 use Rattle.rz_nodes.specs.declared.formatting.Server.{Server}
 use Rattle.rz_nodes.proofs.Rowwise.{one-back}
@@ -9,8 +9,8 @@ use Rattle.rz_store_opening.proofs.formatting.all_here.Goals as goal
 pub loop-server-init : goal.loop-server-init
 loop-server-init g c =
     let row : vec_len c.args.row ≡ length c.args.row.items = c.args.row.ok.0 in
-    let none = c.requires.0 in
-    let fits = c.requires.1 in
+    let none = c.requires.row.0 in
+    let fits = c.requires.row.1 in
     record {
       all = none-out (map (λ (s : Server (UnderFuse g.row.D.Denot)). Some s.node.disk.disk) c.args.servers.items) c.args.row.items (omega (arith, none, row));
       room = omega (arith, none, fits);

@@ -1,4 +1,4 @@
-use Rattle.std.proofs.Common.{ℕ, ◌≡◌, ◌+◌, ◌<◌, ◌++◌, ◌∷◌, [], List, Option, length, get_or, map, reverse, ◌∙◌, ap, arith, vec_len}
+use Rattle.std.proofs.Common.{ℕ, ◌≡◌, ◌++◌, ◌∷◌, [], Option, length, get_or, map, ◌∙◌, ap, arith, vec_len}
 use Rattle.rz_nodes.specs.declared.arriving.KnownNode.{KnownNode}
 use Rattle.rz_nodes.specs.declared.arriving.Arrival.{Arrival}
 use Rattle.rz_nodes.specs.declared.arriving.Missing.{Missing}
