@@ -9,4 +9,4 @@ pub mod Grown
 pub mod Opens
 pub mod Writing
 pub mod Reading
-pub mod Closing
+pub mod LeftDisks

@@ -4,4 +4,4 @@ pub mod Took
 pub mod Words
 pub mod Gathered
 pub mod Leaving
-pub mod Tending
+pub mod Tended

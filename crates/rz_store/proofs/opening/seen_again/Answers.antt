@@ -1,5 +1,5 @@
 use Rattle.rz_store_opening.specs.Opening.{reopened}
-use Rattle.rz_store.proofs.Closing.{same-seen}
+use Rattle.rz_store.proofs.LeftDisks.{same-seen}
 use Rattle.rz_store.proofs.opening.seen_again.Goals as goal
 
 pub returns : goal.returns
