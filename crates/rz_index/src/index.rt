@@ -125,6 +125,13 @@ impl Index {
         self.free.front().copied()
     }
 
+    /// How many cells are free.
+    pub fn free_cells(&self) -> usize
+        ensures { result ≡ length self.now.free }
+    {
+        self.free.len()
+    }
+
     /// Sets the entry of a key. A new key takes its cell out of the free ones.
     pub fn set(&mut self, entry: Entry)
         requires { MatchOption (maps.get self.old.entries entry.key) (Contains self.old.free entry.cell) (λ e. e.cell ≡ entry.cell) }

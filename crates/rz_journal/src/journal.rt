@@ -196,6 +196,13 @@ impl<D: Disk> Journal<D> {
         &self.export
     }
 
+    /// How many bytes of a half the entries take.
+    pub fn used(&self) -> u64
+        ensures { result ≡ self.now.used }
+    {
+        self.entries.used
+    }
+
     /// The disk.
     pub fn into_disk(self) -> D
         ensures { result ≡ self.disk }

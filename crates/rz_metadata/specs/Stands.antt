@@ -32,6 +32,11 @@ abbrev pub refusal_of : {D : Type 0} → Metadata D → Option JournalRefusal
 refusal_of (InMemory s) = None
 refusal_of (Journaled j) = j.refusal
 
+-- how many bytes of a half of the journal its entries take
+abbrev pub used_of : {D : Type 0} → Metadata D → Option ℕ
+used_of (InMemory s) = None
+used_of (Journaled j) = Some j.journal.used
+
 -- The journal kept these calls: a new store accepted them, and then has its export, and each image of the disk stands for them.
 -- The disk had counted so many faults at first.
 pub record IsJournalKept {D : Type 0} (tells : Bool) (meter : D → Meter) (image : D → List ℕ → Type 0) (first : ℕ) (j : Behind D) (calls : List Call) : Type 0 where

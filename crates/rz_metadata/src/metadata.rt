@@ -14,7 +14,7 @@ ghost use Rattle.rz_events.specs.Borrowed.{call_of};
 ghost use Rattle.rz_metadata.specs.Enrolled.{loss_of};
 ghost use Rattle.rz_metadata.specs.Reopened.{AllTextsOf, IsAsItCame, MakesExport};
 ghost use Rattle.rz_metadata.specs.Journals.{IsAsBefore, MayLack, MayRefuse};
-ghost use Rattle.rz_metadata.specs.Stands.{export_in, disk_of, is_journaled, CountsFaults, IsJournalOpen, Stands, StandsAtEnd, refusal_of};
+ghost use Rattle.rz_metadata.specs.Stands.{export_in, disk_of, is_journaled, CountsFaults, IsJournalOpen, Stands, StandsAtEnd, refusal_of, used_of};
 
 use crate::enrolments::{fences_of, losses_of};
 use crate::journaled::{JournalRefusal, Journaled};
@@ -182,6 +182,16 @@ impl<D: Disk> Metadata<D> {
         match self {
             Metadata::InMemory(_) => None,
             Metadata::Journaled(journaled) => journaled.refusal,
+        }
+    }
+
+    /// How many bytes of a half of the journal its entries take, if there is a journal.
+    pub fn journal_used(&self) -> Option<u64>
+        ensures { result ≡ used_of self.now }
+    {
+        match self {
+            Metadata::InMemory(_) => None,
+            Metadata::Journaled(journaled) => Some(journaled.journal.used()),
         }
     }
 

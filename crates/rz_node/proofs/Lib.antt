@@ -2,6 +2,7 @@ mod Leaving
 pub mod AfterChange
 pub mod Changes
 pub mod Clears
+mod Counts
 pub mod Drops
 pub mod Found
 pub mod Keeps

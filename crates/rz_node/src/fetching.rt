@@ -1,5 +1,5 @@
 //! Fetching a record.
-ghost use Rattle.std.specs.Prelude.{◌≡◌, ◌≢◌, ◌≤◌, ℕ, Some, None, true, IsTrue, IfSome, length, drop};
+ghost use Rattle.std.specs.Prelude.{◌≡◌, ◌≢◌, ◌≤◌, ℕ, Some, None, true, IsTrue, IfSome, is_some, length, drop};
 ghost use Rattle.std.specs.Option.{option_map};
 ghost use Rattle.mj_angles.specs.Layout.{max_bins_of};
 ghost use Rattle.rz_disk.specs.Images.{Within};
@@ -18,6 +18,16 @@ use rz_events::{FetchAnswer, Head, Held, Key, NodeAnswer, NodeAsk, Phase};
 use rz_index::Index;
 
 impl<D: Disk> Node<D> {
+    /// Whether it holds the record of a key with this stamp. A node that is down holds what it held.
+    pub fn holds(&self, key: Key, stamp: u64) -> bool
+        ensures { result ≡ is_some (found stamp (held_of self.now.state.held key)) }
+    {
+        match self.phase {
+            Phase::Lost => false,
+            Phase::Up | Phase::Down => { record_at(&self.index, &self.cells, key, stamp).is_some() }
+        }
+    }
+
     /// Reads the bins of the record of a key with this stamp into the front of `out`.
     pub fn fetch_into(&mut self, key: Key, stamp: u64, out: &mut [u64]) -> FetchAnswer
         requires room { max_bins_of self.old.geometry.layout ≤ length out.old }

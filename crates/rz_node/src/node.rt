@@ -1,5 +1,6 @@
 //! A node and the calls that use no disk.
 ghost use Rattle.std.specs.Prelude.{◌≡◌, ◌⊎◌, ◌*◌, ℕ, Some, None, List, IsTrue, IfOk, IfErr, MatchResult, if◌then◌else◌};
+ghost use Rattle.std.specs.FinMap as maps;
 ghost use Rattle.rz_disk.specs.Images.{Only, Within};
 ghost use Rattle.rz_disk.specs.Meter.{armed};
 ghost use Rattle.rz_cells_slots.specs.Counted.{CountedWhere};
@@ -133,6 +134,16 @@ impl<D: Disk> Node<D> {
         ensures { result ≡ self.now.state.losses }
     {
         self.losses
+    }
+
+    /// How many keys hold records, each in a pair of cells of its own.
+    pub fn keys_held(&self) -> u32
+        ensures { result ≡ maps.len self.now.state.held }
+    {
+        match self.phase {
+            Phase::Lost => 0,
+            Phase::Up | Phase::Down => self.cells.geometry().cells - self.index.free_cells() as u32,
+        }
     }
 
     /// How many disks it lost, where it is lost.
