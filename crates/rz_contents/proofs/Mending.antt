@@ -37,7 +37,7 @@ use Rattle.rz_node_model.specs.NodeEvents.{node_event, refill_event, fetch_event
 use Rattle.rz_export_model.specs.ExportEvents.{export_event, enroll_event, next_event, recheck_event}
 use Rattle.rz_operation_model.specs.Rebuild.{Rebuild, Going, Ended, RebuildState, Probing, Enrolling, Replacing, Listing, Copying, Refilling, Leaving, ask_to_copy, rebuild_ask}
 use Rattle.rz_operation_model.specs.Work.{Work, Rebuilding, Ending, Over}
-use Rattle.rz_operation_model.specs.Ask.{ask_of, rebuild_asks}
+use Rattle.rz_operation_model.specs.Ask.{Say, SayDone, ask_of, rebuild_asks}
 use Rattle.rz_operation_model.specs.Steps.{Told, Replied, Answered, Missed, begun, told, in_rebuild, rebuild_after}
 use Rattle.rz_operation_model.specs.Turns.{IsStep, IsExportStep, IsNodeStep, Through, ReplyLost, RequestLost}
 use Rattle.rz_core.specs.History.{of_actor}
@@ -353,19 +353,38 @@ all-own by (x ∷ xs) old all =
     ap (λ b. cond b (x ∷ of_actor by (xs ++ old)) (of_actor by (xs ++ old))) (ap (same_actor by) all.0.0 ∙ same_actor-refl by)
     ∙ ap (λ (z : List Event). x ∷ z) (all-own by xs old all.1)
 
+-- it is at its end where it is about to say so
+ending : (layout : Layout) (n : ℕ) (xs : List Event) (end : RebuildEnd) (work : Work) → IsMending n xs work → ask_of layout work ≡ Say (SayDone (answers.Rebuild end)) → IsAtEnd n xs end
+ending layout n xs end (Rebuilding m s) at is = absurd (go (rebuild_ask m s) is)
+  where
+    go : (q : RebuildAsk) → rebuild_asks layout m q ≡ Say (SayDone (answers.Rebuild end)) → ⊥
+    go asks.Probe same = cc
+    go (asks.Enroll loss) same = cc
+    go (asks.Replace loss fence) same = cc
+    go (asks.Next after) same = cc
+    go (asks.Fetch key position from stamp) same = cc
+    go (asks.Refill fence key stamp length position base) same = cc
+    go (asks.Recheck key) same = cc
+    go (asks.Left key why) same = cc
+    go asks.End same = cc
+ending layout n xs end (Ending answer) at is = (let same : answer ≡ answers.Rebuild end = cc in subst (IsAtAnswer n xs) same at)
+ending layout n xs end Over at is = cc
+ending layout n xs end (_) at is = absurd at
+
 pub rebuild_whole : (v : Volume) → ((h : List Event) → IsLegalInRuns v h → AreRebuilt h) → ((h : List Event) → IsLegalInRuns v h → IsComplete h) → IsRebuildWhole v
 rebuild_whole v are-rebuilt complete old xs by number n fence refilled legal course =
     let x : Event = e.Done by number (answers.Rebuild (ends.Rebuilt fence refilled)) in
-    let so = mends v.layout by number n xs (Ending (answers.Rebuild (ends.Rebuilt fence refilled))) course in
-    let loss : ℕ = so.0.0 in
+    let so = mends v.layout by number n xs course.0 course.1 in
+    let has = ending v.layout n xs (ends.Rebuilt fence refilled) course.0 so.0 course.2 in
+    let loss : ℕ = has.0 in
     let done : IsRebuildDone (xs ++ old) by fence refilled = (are-rebuilt (x ∷ xs ++ old) legal).1 in
     let run : IsRebuilt (xs ++ of_actor by old) done.node done.loss fence refilled =
     subst (λ (o : List Event). IsRebuilt o done.node done.loss fence refilled) (all-own by xs old so.1) done.rebuilt in
-    let same = run-of n loss xs (of_actor by old) done.node done.loss fence refilled Finished so.0.1 run in
+    let same = run-of n loss xs (of_actor by old) done.node done.loss fence refilled Finished has.1 run in
     let its : IsRebuilt (of_actor by (xs ++ old)) n loss fence refilled =
     subst (λ (i : ℕ). IsRebuilt (of_actor by (xs ++ old)) i loss fence refilled) same.0
     (subst (λ (i : ℕ). IsRebuilt (of_actor by (xs ++ old)) done.node i fence refilled) same.1 done.rebuilt) in
     let said : IsRebuilt (of_actor by (x ∷ xs ++ old)) n loss fence refilled =
     subst (λ (o : List Event). IsRebuilt o n loss fence refilled) (sym (all-own by (x ∷ []) (xs ++ old) ((refl, refl), tt))) its in
-    let since = losses-since v n loss xs old legal.0 so.0.1 in
+    let since = losses-since v n loss xs old legal.0 has.1 in
     complete (x ∷ xs ++ old) legal by n loss fence refilled said (at-node x (xs ++ old) n (λ w. losses w ≡ loss) (λ is. since) since)
