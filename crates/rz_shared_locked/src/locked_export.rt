@@ -176,10 +176,10 @@ impl<D: Disk, J: Metering> LockedExport<D, J> {
         ensures listed { IfOk result (λ l. IsTrue (keeps_legal J.kind) → l ≡ published_after (export_of (volume_in J.kind) (facts (self.now ++ J.earlier)) (of_word w.Export (self.now ++ J.earlier))) after) }
         ensures refused { OnErr result (IsTrue (is_some J.journal)) }
     {
-        if self.metadata.refusal().is_some() {
-            return Err(NoReply);
+        match self.metadata.refusal() {
+            Some(_) => Err(NoReply),
+            None => Ok(self.metadata.published(after)),
         }
-        Ok(self.metadata.published(after))
     }
 
     /// Calls the export, and adds the event of its reply to the log. There is no reply where memory is
