@@ -188,7 +188,7 @@ module _ (kind : List ℕ) (earlier : List Event) (node : ℕ) (old mid last new
             → IsRebuildEnding v.layout new.pass.actor mid.number node events end → IsLegalInRuns v (new.pass.log ++ earlier) → IsWholeIfRebuilt (new.pass.log ++ earlier) node end
         its-whole law (ends.Rebuilt fence refilled) events log course at =
             let x : Event = e.Done new.pass.actor mid.number (answers.Rebuild (ends.Rebuilt fence refilled)) in
-            let all : new.pass.log ++ earlier ≡ x ∷ events ++ old.pass.log ++ earlier =
+            let all : new.pass.log ++ earlier ≡ x ∷ events ++ (old.pass.log ++ earlier) =
             ap (λ (l : List Event). l ++ earlier) log ∙ ap (λ (l : List Event). x ∷ l) (append_assoc events old.pass.log earlier) in
             subst (λ (h : List Event). IsWholeIfRebuilt h node (ends.Rebuilt fence refilled)) (sym all)
             (law (old.pass.log ++ earlier) events new.pass.actor mid.number node fence refilled (subst (IsLegalInRuns v) all at) course)

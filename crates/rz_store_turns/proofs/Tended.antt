@@ -121,3 +121,7 @@ swapped-lost kind earlier old new n (Some loss) log right keeps legal =
 swapped-lost kind earlier old new n None log right keeps legal =
     subst (λ (h : List Event). phase (node n (h ++ earlier)) ≡ Lost) (sym log)
     (lost-if-none (volume_in kind) (old ++ earlier) legal n right.state (right.tied keeps) right.is)
+
+pub started-tends : (by : Actor) (n : ℕ) (given : NodeAnswer) → IfSome (node_event by n ask.Start given) IsTending
+started-tends by n (answer.Start given) = start-tends n given
+started-tends by n given = tt
