@@ -8,3 +8,4 @@ pub mod Leaving
 pub mod Losses
 pub mod Tended
 pub mod Swapped
+mod Counted

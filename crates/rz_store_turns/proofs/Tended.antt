@@ -1,5 +1,5 @@
 -- The administrator's events among those of others, who add nothing.
-use Rattle.std.proofs.Common.{ℕ, true, false, ◌≡◌, List, [], ◌∷◌, ◌++◌, Option, Some, None, cond, refl, sym, ap, ◌∙◌, subst}
+use Rattle.std.proofs.Common.{ℕ, false, ◌≡◌, List, [], ◌∷◌, ◌++◌, Option, Some, None, cond, refl, sym, ap, ◌∙◌, subst}
 use Rattle.std.specs.Prelude.{IsTrue, IfSome}
 use Rattle.rz_events.specs.Volume.{Volume}
 use Rattle.rz_events.specs.declared.keys.Actor.{Actor}
@@ -20,8 +20,6 @@ use Rattle.rz_core.specs.NodeWord.{phase}
 use Rattle.rz_core.specs.Legal.{IsLegalInRuns}
 use Rattle.rz_core.proofs.NodeLaws.{node}
 use Rattle.rz_play.specs.Lines.{noted}
-use Rattle.rz_chronicle.specs.Holds.{Stays}
-use Rattle.rz_chronicle.specs.Keys.{IsLater}
 use Rattle.rz_chronicle.specs.Kinds.{HavePlaces, keeps_legal, volume_in}
 use Rattle.rz_chronicle.specs.Laws.{IsAddedAlone}
 use Rattle.rz_chronicle.specs.Rules.{PassView}
