@@ -1,7 +1,7 @@
 use Rattle.std.proofs.Common.{rules, arith, refl, ◌≡◌, ◌≤◌, ◌<◌, ◌+◌, ◌-◌, ◌*◌, ◌∙◌, ℕ, ℤ, zero, suc, List, [], ◌∷◌, length, get_or, take, map, replicate, ap, sym, subst}
 use Rattle.std.specs.Prelude.{slice_range, true, false}
 use Rattle.std.specs.List.{sum_by}
-use Rattle.std.proofs.lemmas.List.{places}
+use Rattle.std.proofs.lemmas.List.{places, take_all}
 use Rattle.rz_words.specs.Grid.{Grid, IsShape, grid_of}
 use Rattle.mj_angles.specs.Layout.{inverse_of, cols_of, angle_of, bins_at_of}
 use Rattle.mj_inverse.specs.Fits.{IsFound, Search}
@@ -27,7 +27,8 @@ first_block : (bins : List ℕ) (each : ℕ) → length bins ≡ each → slice_
 first_block bins each long =
     let none : 0 * each ≡ 0 = omega arith in
     let all : 0 + each ≡ each = omega arith in
-    let whole : slice_range bins 0 each ≡ bins = search (rules, places) in
+    let most : length bins ≤ each - 0 = omega arith in
+    let whole : slice_range bins 0 each ≡ bins = take_all (each - 0) bins most in
     ap (λ x. slice_range bins x (x + each)) none ∙ ap (slice_range bins 0) all ∙ whole
 
 pub find_one-requires-clause-angles : goal.find_one-requires-clause-angles
@@ -63,13 +64,14 @@ find_one-requires-clause-room g c =
     let long : length (replicate g.row.N 0) ≡ g.row.N = search (rules, places) in
     subst P (sym c.four_frame-frame.ensures.value) (long ∙ c.requires.size)
 
-zeros : (n k : ℕ) → get_or (replicate n 0) k 0 ≡ 0
-zeros zero k = refl
-zeros (suc n) zero = refl
-zeros (suc n) (suc k) = zeros n k
+-- the same in each place, and behind the last
+same_at : (x n k : ℕ) → get_or (replicate n x) k x ≡ x
+same_at x zero k = refl
+same_at x (suc n) zero = refl
+same_at x (suc n) (suc k) = same_at x n k
 
 pub find_one-requires-clause-zero : goal.find_one-requires-clause-zero
-find_one-requires-clause-zero g c = zeros g.row.N
+find_one-requires-clause-zero g c = same_at 0 g.row.N
 
 pub find_one-requires-clause-out : goal.find_one-requires-clause-out
 find_one-requires-clause-out g c = let P : Frame → Type 0 = λ (f : Frame). length c.args.out.now ≡ f.rows * f.cols in subst P (sym c.four_frame-frame.ensures.value) c.requires.room
