@@ -1,5 +1,5 @@
-use Rattle.std.proofs.Common.{rules, arith, refl, ◌≡◌, ◌≤◌, ◌<◌, ◌+◌, ◌-◌, ◌*◌, ◌∙◌, ℕ, ℤ, zero, suc, List, [], ◌∷◌, length, get_or, take, map, replicate, ap, sym, subst}
-use Rattle.std.specs.Prelude.{slice_range, true, false}
+use Rattle.std.proofs.Common.{rules, arith, refl, ◌≡◌, ◌≤◌, ◌+◌, ◌-◌, ◌*◌, ◌∙◌, ℕ, ℤ, zero, suc, List, [], ◌∷◌, length, get_or, take, map, replicate, ap, sym, subst}
+use Rattle.std.specs.Prelude.{slice_range}
 use Rattle.std.specs.List.{sum_by}
 use Rattle.std.proofs.lemmas.List.{places, take_all}
 use Rattle.rz_words.specs.Grid.{Grid, IsShape, grid_of}
