@@ -18,7 +18,7 @@ ghost use Rattle.rz_chronicle.specs.Kinds.{IsFit, IsFitAfter, keeps_legal, volum
 ghost use Rattle.rz_chronicle.specs.Holds.{Commits, Stays};
 ghost use Rattle.rz_chronicle.specs.Dealing.{new_word_token};
 ghost use Rattle.rz_shared_locked.specs.Adding.{MayBeNext};
-ghost use Rattle.rz_shared_locked.specs.LockedExports.{AreTextsOfBytes, AreMetadataFrom, IsCallOfBytes, IsUnanswered, AnswersCall, event_given, faults_of};
+ghost use Rattle.rz_shared_locked.specs.LockedExports.{AreTextsOfBytes, AreTextsFrom, AreMetadataFrom, IsCallOfBytes, IsUnanswered, AnswersCall, event_given, faults_of};
 
 use crate::counting::Metering;
 use crate::waiting::without_reply;
@@ -115,9 +115,13 @@ impl<D: Disk, J: Metering> LockedExport<D, J> {
     }
 
     /// The metadata, and the token of the export's word. In each later log that has no further event of it they
-    /// have what the log gives, or they refused a call.
+    /// have what the log gives, or they refused a call, and each text of that log is one of bytes. The journal,
+    /// if there is one, comes back in them.
     pub fn close(self) -> (Metadata<D>, WordToken<J>)
         ensures word_token { result.1 ≡ record { word = w.Export; log = self } }
+        ensures volume { (export_in result.0).volume ≡ volume_in J.kind }
+        ensures journal { is_journaled result.0 ≡ is_some J.journal }
+        ensures texts { IsTrue (keeps_legal J.kind) → AreTextsFrom J.earlier self }
         ensures metadata { AreMetadataFrom D.tells D.meter D.image (faults_of J.journal) J.kind J.earlier self result.0 }
         ensures counted { CountsFaults D.meter (faults_of J.journal) result.0 }
     {
