@@ -14,3 +14,4 @@ pub mod Watched
 pub mod PutCauses
 pub mod GetCauses
 pub mod Sizes
+pub mod Published

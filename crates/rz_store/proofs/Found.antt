@@ -1,11 +1,13 @@
 -- The node of a number in a volume.
 use Rattle.std.proofs.Common.{zero, suc, ◌≡◌, refl, ℕ, ◌+◌, ◌<◌, ◌==◌, ◌⊎◌, inl, inr, Bool, true, false, cond, Option, Some, None, List, [], ◌∷◌, ◌++◌, length, map, drop, get_or, sym, ◌∙◌, ap, arith}
+use Rattle.std.specs.Prelude.{IsTrue, is_some, ◌↔◌}
 use Rattle.std.specs.List.{find}
 use Rattle.std.proofs.lemmas.Bool.{eqb-true, eq-eqb}
-use Rattle.rz_events.specs.Volume.{Cluster, nodes_of}
+use Rattle.rz_events.specs.Volume.{Volume, Cluster, nodes_of}
 use Rattle.rz_events.specs.declared.files.NodeSpec.{NodeSpec}
 use Rattle.rz_node_model.specs.Versions.{Stands}
-use Rattle.rz_core.specs.NodeRows.{cells_among}
+use Rattle.rz_core.specs.NodeRows.{cells_among, IsNodeOf}
+use Rattle.rz_store.specs.Nodes.{spec_in}
 
 -- Lists one after another.
 
@@ -69,3 +71,7 @@ module _ (n : ℕ) where
       go : (b : Bool) → (s.sid == n) ≡ b → cond b (Some s) (find (λ (s : NodeSpec). s.sid == n) specs) ≡ None → ¬ Stands n (Numbers (s ∷ specs))
       go true one none = absurd (cc)
       go false other none = λ there. elim there [ inl same ↦ absurd (let yes = eq-eqb s.sid n same in cc) | inr more ↦ none-there specs none more ]
+
+pub node-had : (v : Volume) (n : ℕ) (o : Option NodeSpec) → o ≡ spec_in v n → (b : Bool) → b ≡ is_some o → IsTrue b ↔ IsNodeOf v n
+node-had v n (Some spec) is b some = (λ yes. found-there n (nodes_of v.clusters) spec (sym is), λ of. some)
+node-had v n None is b some = (λ yes. absurd (cc), λ of. absurd (none-there n (nodes_of v.clusters) (sym is) of))

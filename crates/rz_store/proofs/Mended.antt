@@ -1,5 +1,5 @@
 -- A rebuild that ends with blocks left has left some.
-use Rattle.std.proofs.Common.{ℕ, Bool, true, false, ◌≡◌, ◌==◌, cond, List, Option, Some, None, refl, eq-eqb}
+use Rattle.std.proofs.Common.{ℕ, Bool, true, false, ◌≡◌, ◌==◌, cond, List, Option, Some, None, refl, subst, eq-eqb}
 use Rattle.mj_angles.specs.declared.layout.Layout.{Layout}
 use Rattle.rz_events.specs.declared.keys.Actor.{Actor}
 use Rattle.rz_events.specs.declared.operations.Operation.TheVariants as operation
@@ -14,12 +14,17 @@ use Rattle.rz_events.specs.declared.nodes.ReplaceAnswer.{ReplaceAnswer}
 use Rattle.rz_events.specs.declared.nodes.ReplaceAnswer.TheVariants as replace
 use Rattle.rz_events.specs.declared.machines.RebuildAnswer.{RebuildAnswer}
 use Rattle.rz_events.specs.declared.machines.RebuildAnswer.TheVariants as answers
+use Rattle.rz_events.specs.declared.machines.RebuildAsk.{RebuildAsk}
+use Rattle.rz_events.specs.declared.machines.RebuildAsk.TheVariants as asks
+use Rattle.rz_events.specs.declared.events.Answer.{Answer}
 use Rattle.rz_events.specs.declared.events.Answer.TheVariants as answer
 use Rattle.rz_events.specs.declared.events.Event.{Event}
-use Rattle.rz_operation_model.specs.Rebuild.{Rebuild, Going, Ended, RebuildState, Probing, Enrolling, Replacing, Listing, Copying, Refilling, Leaving, Tally, end_of, rebuild_told, after_probe, after_replace, after_refill, after_next}
+use Rattle.rz_operation_model.specs.Rebuild.{Rebuild, Going, Ended, RebuildState, Probing, Enrolling, Replacing, Listing, Copying, Refilling, Leaving, Tally, end_of, rebuild_told, after_probe, after_replace, after_refill, after_next, rebuild_ask}
+use Rattle.rz_operation_model.specs.Ask.{Say, SayDone, Rest, rebuild_asks, ask_of}
 use Rattle.rz_operation_model.specs.Work.{Work, Rebuilding, Ending, Over}
 use Rattle.rz_operation_model.specs.Steps.{Told, Replied, Answered, Missed, Noted, begun, told, in_rebuild, rebuild_after}
 use Rattle.rz_contents.specs.Putting.{IsCourseFrom, Starts, Goes}
+use Rattle.rz_contents.specs.Mending.{IsRebuildEnding}
 
 abbrev LeftSome : RebuildEnd → Type 0
 LeftSome (ends.Left fence refilled left) = ¬ (left ≡ 0)
@@ -100,6 +105,24 @@ course-right : (layout : Layout) (by : Actor) (number n : ℕ) (xs : List Event)
 course-right layout by number n xs work (Starts) = tt
 course-right layout by number n xs work (Goes before was t ys course step) = turn-right layout was t (course-right layout by number n before was course)
 
-pub left-some : (layout : Layout) (by : Actor) (number n fence refilled left : ℕ) (xs : List Event)
-    → IsCourseFrom layout by number (begun (operation.Rebuild n)) xs (Ending (answer.Rebuild (ends.Left fence refilled left))) → ¬ (left ≡ 0)
-left-some layout by number n fence refilled left xs course = course-right layout by number n xs (Ending (answer.Rebuild (ends.Left fence refilled left))) course
+-- a rebuild under way asks for more
+asks-more : (layout : Layout) (n : ℕ) (q : RebuildAsk) (a : Answer) → ¬ (rebuild_asks layout n q ≡ Say (SayDone a))
+asks-more layout n (asks.Probe) a is = cc
+asks-more layout n (asks.Enroll loss) a is = cc
+asks-more layout n (asks.Replace loss fence) a is = cc
+asks-more layout n (asks.Next after) a is = cc
+asks-more layout n (asks.Fetch key position from stamp) a is = cc
+asks-more layout n (asks.Refill fence key stamp length position base) a is = cc
+asks-more layout n (asks.Recheck key) a is = cc
+asks-more layout n (asks.Left key why) a is = cc
+asks-more layout n (asks.End) a is = cc
+
+said-right : (layout : Layout) (work : Work) (end : RebuildEnd) → IsRight work → ask_of layout work ≡ Say (SayDone (answer.Rebuild end)) → LeftSome end
+said-right layout (Rebuilding n s) end is says = absurd (asks-more layout n (rebuild_ask n s) (answer.Rebuild end) says)
+said-right layout (Ending a) end is says = (let one : a ≡ answer.Rebuild end = cc in subst (λ (b : Answer). IsRight (Ending b)) one is)
+said-right layout Over end is says = absurd (let no : Rest ≡ Say (SayDone (answer.Rebuild end)) = says in cc)
+said-right layout (_) end is says = absurd is
+
+pub left-some : (layout : Layout) (by : Actor) (number n fence refilled left : ℕ) (xs : List Event) → IsRebuildEnding layout by number n xs (ends.Left fence refilled left) → ¬ (left ≡ 0)
+left-some layout by number n fence refilled left xs ending =
+    said-right layout ending.0 (ends.Left fence refilled left) (course-right layout by number n xs ending.0 ending.1) ending.2

@@ -63,9 +63,9 @@ rebuilt-in : (kind : List ℕ) (earlier : List Event) (old new : SoleView) (node
     → HasRebuilt (view kind earlier old) node end (view kind earlier new)
 rebuilt-in kind earlier old new node end has keeps = record {
   by = new.pass.actor;
-  number = new.number;
+  number = has.number;
   events = has.events;
-  log = ap (λ (h : List Event). h ++ earlier) has.log ∙ append_assoc (e.Done new.pass.actor new.number (answers.Rebuild end) ∷ has.events) old.pass.log earlier;
+  log = ap (λ (h : List Event). h ++ earlier) has.log ∙ append_assoc (e.Done new.pass.actor has.number (answers.Rebuild end) ∷ has.events) old.pass.log earlier;
   course = has.course keeps;
 }
 
@@ -81,7 +81,7 @@ has-refilled kind earlier old new node (Ok (ends.Left fence refilled left)) has 
   end = ends.Left fence refilled left;
   rebuilt = rebuilt-in kind earlier old new node (ends.Left fence refilled left) has keeps;
   tells = refl;
-  complete = λ none. absurd (left-some (volume_in kind).layout new.pass.actor new.number node fence refilled left has.events (has.course keeps) none);
+  complete = λ none. absurd (left-some (volume_in kind).layout new.pass.actor has.number node fence refilled left has.events (has.course keeps) none);
 }
 has-refilled kind earlier old new node (Ok (_)) has = tt
 has-refilled kind earlier old new node (Err why) has = tt

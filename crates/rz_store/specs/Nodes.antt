@@ -4,7 +4,6 @@ use Rattle.std.specs.List.{find}
 use Rattle.rz_events.specs.Volume.{Volume, nodes_of}
 use Rattle.rz_events.specs.declared.files.NodeSpec.{NodeSpec}
 use Rattle.rz_events.specs.declared.keys.Actor.{Actor}
-use Rattle.rz_events.specs.declared.operations.Operation.TheVariants as operation
 use Rattle.rz_events.specs.declared.ends.RebuildEnd.{RebuildEnd}
 use Rattle.rz_events.specs.declared.ends.RebuildEnd.TheVariants as ends
 use Rattle.rz_events.specs.declared.nodes.Phase.{Phase}
@@ -17,14 +16,13 @@ use Rattle.rz_events.specs.declared.events.Word.TheVariants.{Node}
 use Rattle.rz_events.specs.declared.events.Event.{Event}
 use Rattle.rz_events.specs.declared.events.Event.TheVariants as e
 use Rattle.rz_node_model.specs.NodeEvents.{lose_event}
-use Rattle.rz_operation_model.specs.Work.{Ending}
-use Rattle.rz_operation_model.specs.Steps.{begun}
 use Rattle.rz_core.specs.History.{of_word}
 use Rattle.rz_core.specs.NodeWord.{phase, losses}
-use Rattle.rz_core.specs.NodeRows.{IsNodeOf}
+use Rattle.rz_core.specs.NodeRows.{IsNodeOf, cells_of}
 use Rattle.rz_play.specs.Lines.{noted}
 use Rattle.rz_safety.specs.Rebuilt.{IsWhole}
-use Rattle.rz_contents.specs.Putting.{IsCourseFrom}
+use Rattle.rz_contents.specs.Mending.{IsRebuildEnding}
+use Rattle.rz_shared_locked.specs.Told.{HoldsKeys}
 use Rattle.rz_shared_locked.specs.declared.swapping.SwapFault.{SwapFault}
 use Rattle.rz_shared_locked.specs.declared.swapping.SwapFault.TheVariants as unswapped
 use Rattle.rz_store_turns.specs.declared.sole.Stop.{Stop}
@@ -33,6 +31,7 @@ use Rattle.rz_store.specs.declared.faults.StartFault.TheVariants as unstarted
 use Rattle.rz_store.specs.declared.faults.ReplaceFault.{ReplaceFault}
 use Rattle.rz_store.specs.declared.faults.ReplaceFault.TheVariants as unreplaced
 use Rattle.rz_store.specs.declared.nodes.Rebuilt.{Rebuilt}
+use Rattle.rz_store.specs.declared.nodes.NodeRoom.{NodeRoom}
 use Rattle.rz_store.specs.Store.{StoreView}
 
 -- the description of the node of this number
@@ -42,6 +41,13 @@ spec_in v number = find (λ (node : NodeSpec). node.sid == number) (nodes_of v.c
 -- whether a node is up, down or lost
 abbrev pub phase_in : StoreView → ℕ → Phase
 phase_in s node = phase (of_word (Node node) s.log)
+
+-- Room.
+
+-- The node has so many pairs of cells, each for the records of one key, and holds records of so many keys.
+pub record IsRoomOf (s : StoreView) (node : ℕ) (room : NodeRoom) : Type 0 where
+  pub pairs : room.pairs ≡ cells_of s.volume node
+  pub used : HoldsKeys s.log node room.used
 
 -- Starts.
 
@@ -89,7 +95,7 @@ pub record HasRebuilt (old : StoreView) (node : ℕ) (end : RebuildEnd) (new : S
   pub number : ℕ
   pub events : List Event
   pub log : new.log ≡ e.Done by number (answer.Rebuild end) ∷ events ++ old.log
-  pub course : IsCourseFrom old.volume.layout by number (begun (operation.Rebuild node)) events (Ending (answer.Rebuild end))
+  pub course : IsRebuildEnding old.volume.layout by number node events end
 
 -- And so many blocks were refilled and so many left. Where none was left, the node is complete.
 pub record HasRefilled (old : StoreView) (node : ℕ) (told : Rebuilt) (new : StoreView) : Type 0 where

@@ -20,7 +20,7 @@ mod store;
 mod texts;
 
 pub use faults::{NameFault, ReadFault, ReplaceFault, StartFault, WriteFault};
-pub use nodes::Rebuilt;
+pub use nodes::{JournalRoom, NodeRoom, Rebuilt};
 pub use opening::seen_again;
 pub use ranges::ShortWrite;
 pub use rz_store_turns::{ClosedStore, Stop};

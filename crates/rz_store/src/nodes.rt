@@ -1,16 +1,17 @@
 //! Nodes: one is started again, or gets a new disk.
-ghost use Rattle.std.specs.Prelude.{◌≡◌, ◌==◌, ◌↔◌, false, Some, IsTrue, OnOk, OnErr, IfOk, IfErr};
+ghost use Rattle.std.specs.Prelude.{◌≡◌, ◌==◌, ◌↔◌, false, Some, is_some, IsTrue, IfSome, IfNone, OnOk, OnErr, IfOk, IfErr};
 ghost use Rattle.std.specs.List.{find};
 ghost use Rattle.rz_core.specs.NodeRows.{IsNodeOf};
 ghost use Rattle.rz_chronicle.specs.Keys.{IsLater};
 ghost use Rattle.rz_store.specs.Store.{IfLegal, LooksSame};
-ghost use Rattle.rz_store.specs.Nodes.{spec_in, start_told, HasStarted, IsStartCause, rebuild_told, swap_told, HasRefilled, IsRebuildCause, HasReplaced, IsReplaceCause, IsUnreplaced};
+ghost use Rattle.rz_store.specs.Nodes.{spec_in, phase_in, IsRoomOf, start_told, HasStarted, IsStartCause, rebuild_told, swap_told, HasRefilled, IsRebuildCause, HasReplaced, IsReplaceCause, IsUnreplaced};
 
 use crate::faults::{ReplaceFault, StartFault};
 use crate::store::Store;
 use rz_config::Volume;
 use rz_disk::Disk;
-use rz_events::{NodeSpec, RebuildEnd, StartAnswer};
+use rz_events::{NodeSpec, Phase, RebuildEnd, StartAnswer};
+use rz_journal::HALF_BYTES;
 use rz_shared::{Metering, SwapFault};
 use rz_store_turns::Stop;
 use std::sync::Wait;
@@ -21,6 +22,20 @@ use std::sync::Wait;
 pub struct Rebuilt {
     pub refilled: u64,
     pub left: u64,
+}
+
+/// How much room a node has: so many pairs of cells, each for the records of one key, of which so many are used.
+#[derive(Clone, Copy, Drop)]
+pub struct NodeRoom {
+    pub pairs: u32,
+    pub used: u32,
+}
+
+/// How much room the journal has: so many bytes, of which its entries take so many.
+#[derive(Clone, Copy, Drop)]
+pub struct JournalRoom {
+    pub bytes: u64,
+    pub used: u64,
 }
 
 /// The node of a number, among these.
@@ -84,6 +99,39 @@ fn swap_told(fault: SwapFault) -> ReplaceFault
 }
 
 impl<D: Disk, J: Metering> Store<D, J> {
+    /// How much room a node has. Nothing is told of one whose disk is away, and of a number that no node has.
+    pub fn room<R: Wait>(&mut self, rt: &R, node: u16) -> Option<NodeRoom>
+        ensures room { IfSome result (λ room. IfLegal J.kind (IsRoomOf self.old node room)) }
+        ensures away { IfNone result (IfLegal J.kind (IsNodeOf self.old.volume node → ¬ (phase_in self.old node ≡ Phase.Up))) }
+        ensures log { self.new.log ≡ self.old.log }
+        ensures volume { self.new.volume ≡ self.old.volume }
+    {
+        let Some(spec) = find_node(self.sole.volume(), node) else {
+            return None;
+        };
+        let Some(used) = self.sole.keys_held(rt, node) else {
+            return None;
+        };
+        Some(NodeRoom {
+            pairs: spec.cells,
+            used,
+        })
+    }
+
+    /// How much room the journal has, if there is one.
+    pub fn journal_room<R: Wait>(&self, rt: &R) -> Option<JournalRoom>
+        ensures here { is_some result ≡ is_some J.journal }
+        ensures bytes { IfSome result (λ room. room.bytes ≡ 8_388_576) }
+    {
+        let Some(used) = self.sole.journal_used(rt) else {
+            return None;
+        };
+        Some(JournalRoom {
+            bytes: HALF_BYTES,
+            used,
+        })
+    }
+
     /// Starts a node that is down: its disk failed in a call, or did not open.
     pub fn start<R: Wait>(&mut self, rt: &R, node: u16) -> Result<(), StartFault>
         ensures started { OnOk result (IfLegal J.kind (HasStarted self.old node self.new)) }
