@@ -48,29 +48,32 @@ module _ (n : ℕ) where
   abbrev Numbers : List NodeSpec → List ℕ
   Numbers specs = map (λ (spec : NodeSpec). spec.sid) specs
 
+  -- this one, or one of the others
+  there-or : (s spec : NodeSpec) (specs : List NodeSpec) (b : Bool) → (s.sid == n) ≡ b → (find (λ (z : NodeSpec). z.sid == n) specs ≡ Some spec → Stands n (Numbers specs))
+      → cond b (Some s) (find (λ (z : NodeSpec). z.sid == n) specs) ≡ Some spec → Stands n (Numbers (s ∷ specs))
+  there-or s spec specs true one others is = inl (eqb-true s.sid n one)
+  there-or s spec specs false other others is = inr (others is)
+
   pub found-there : (specs : List NodeSpec) (spec : NodeSpec) → find (λ (s : NodeSpec). s.sid == n) specs ≡ Some spec → Stands n (Numbers specs)
   found-there [] spec is = absurd (cc)
-  found-there (s ∷ specs) spec is = go (s.sid == n) refl is
-    where
-      go : (b : Bool) → (s.sid == n) ≡ b → cond b (Some s) (find (λ (s : NodeSpec). s.sid == n) specs) ≡ Some spec → Stands n (Numbers (s ∷ specs))
-      go true one found = inl (eqb-true s.sid n one)
-      go false other found = inr (found-there specs spec found)
+  found-there (s ∷ specs) spec is = there-or s spec specs (s.sid == n) refl (found-there specs spec) is
+
+  cells-or : (s spec : NodeSpec) (o : Option NodeSpec) (others : ℕ) (b : Bool) → (o ≡ Some spec → spec.cells ≡ others) → cond b (Some s) o ≡ Some spec → spec.cells ≡ cond b s.cells others
+  cells-or s spec o others true rest is = (let one : s ≡ spec = cc in ap (λ (z : NodeSpec). z.cells) (sym one))
+  cells-or s spec o others false rest is = rest is
 
   pub found-cells : (specs : List NodeSpec) (spec : NodeSpec) → find (λ (s : NodeSpec). s.sid == n) specs ≡ Some spec → spec.cells ≡ cells_among specs n
   found-cells [] spec is = absurd (cc)
-  found-cells (s ∷ specs) spec is = go (s.sid == n) is
-    where
-      go : (b : Bool) → cond b (Some s) (find (λ (s : NodeSpec). s.sid == n) specs) ≡ Some spec → spec.cells ≡ cond b s.cells (cells_among specs n)
-      go true found = cc
-      go false found = found-cells specs spec found
+  found-cells (s ∷ specs) spec is = cells-or s spec (find (λ (z : NodeSpec). z.sid == n) specs) (cells_among specs n) (s.sid == n) (found-cells specs spec) is
+
+  none-or : (s : NodeSpec) (specs : List NodeSpec) (b : Bool) → (s.sid == n) ≡ b → (find (λ (z : NodeSpec). z.sid == n) specs ≡ None → ¬ Stands n (Numbers specs))
+      → cond b (Some s) (find (λ (z : NodeSpec). z.sid == n) specs) ≡ None → ¬ Stands n (Numbers (s ∷ specs))
+  none-or s specs true one others is = absurd (cc)
+  none-or s specs false other others is = λ there. elim there [ inl same ↦ absurd (let yes = eq-eqb s.sid n same in cc) | inr more ↦ others is more ]
 
   pub none-there : (specs : List NodeSpec) → find (λ (s : NodeSpec). s.sid == n) specs ≡ None → ¬ Stands n (Numbers specs)
   none-there [] is = λ there. there
-  none-there (s ∷ specs) is = go (s.sid == n) refl is
-    where
-      go : (b : Bool) → (s.sid == n) ≡ b → cond b (Some s) (find (λ (s : NodeSpec). s.sid == n) specs) ≡ None → ¬ Stands n (Numbers (s ∷ specs))
-      go true one none = absurd (cc)
-      go false other none = λ there. elim there [ inl same ↦ absurd (let yes = eq-eqb s.sid n same in cc) | inr more ↦ none-there specs none more ]
+  none-there (s ∷ specs) is = none-or s specs (s.sid == n) refl (none-there specs) is
 
 pub node-had : (v : Volume) (n : ℕ) (o : Option NodeSpec) → o ≡ spec_in v n → (b : Bool) → b ≡ is_some o → IsTrue b ↔ IsNodeOf v n
 node-had v n (Some spec) is b some = (λ yes. found-there n (nodes_of v.clusters) spec (sym is), λ of. some)

@@ -24,6 +24,7 @@ use Rattle.rz_store.specs.Store.{StoreView, model_in, LooksSame, HasPut, HasGot,
 use Rattle.rz_store.proofs.Looks.{same-then}
 use Rattle.rz_store.proofs.Grown.{grown-still, fid-there}
 use Rattle.rz_store.proofs.Opens.{file-there}
+use Rattle.rz_store.proofs.Writing.{put-before}
 
 -- What nobody published in all these events nobody did in some of them.
 
@@ -66,16 +67,13 @@ put-again s new path block text covered legal put contains =
 -- A block that was read and then written.
 
 module _ (old mid new : StoreView) (path : List ℕ) (block : ℕ) (same : LooksSame old mid) where
-  -- what the get told is what the block contains still
-  got-still : (text : Option (List ℕ)) → HasGot old path block text → (file : Found) → IsFileAt (model_in mid).names path file → (model_in mid).blocks (key_in file block) ≡ text
-  got-still text got file at =
-      let before : IsFileAt (model_in old).names path file = subst (λ (t : Tree). IsFileAt t path file) same.names at in
-      let one : got.file ≡ file = same_Some got.file file (sym got.at.there ∙ before.there) in
-      same.blocks (key_in file block) ∙ ap (λ (f : Found). (model_in old).blocks (key_in f block)) (sym one) ∙ got.got
-
-  pub repaired-same : (text : List ℕ) → AreCovered mid.volume → IsLegalInRuns mid.volume mid.log → HasGot old path block (Some text) → HasPut mid path block text new → LooksSame old new
-  repaired-same text covered legal got put =
-      same-then (model_in old) (model_in mid) (model_in new) same (put-again mid new path block text covered legal put (got-still (Some text) got))
+  pub repaired-same : (text : List ℕ) → mid.volume ≡ old.volume → AreCovered old.volume → IsLegalInRuns old.volume old.log → HasGot old path block (Some text) → HasPut mid path block text new
+      → LooksSame old new
+  repaired-same text volume covered legal got put =
+      put-again old new path block text covered legal (put-before old mid new same volume path block text put)
+      (λ (file : Found) at.
+      (let one : got.file ≡ file = same_Some got.file file (sym got.at.there ∙ at.there) in
+      ap (λ (f : Found). (model_in old).blocks (key_in f block)) (sym one) ∙ got.got))
 
   pub repaired-anew : IsLater old.log mid.log → HasPublished mid path block new → HasRenewed old path block new
   repaired-anew later put = record {
@@ -88,9 +86,10 @@ module _ (old mid new : StoreView) (path : List ℕ) (block : ℕ) (same : Looks
     );
   }
 
-pub nothing-there : (old new : StoreView) (path : List ℕ) (block : ℕ) → HasGot old path block None → HasRenewed old path block new
-nothing-there old new path block got = record { file = got.file; at = got.at; renewed = inr got.got }
-
 pub either-way : {T E : Type 0} (r : Result T E) (P : Type 0) → OnOk r P → OnErr r P → P
 either-way (Ok x) P done kept = done
 either-way (Err f) P done kept = kept
+
+pub on-err-so : {T E : Type 0} (r : Result T E) (P Q : Type 0) → (P → Q) → OnErr r P → OnErr r Q
+on-err-so (Ok x) P Q so is = tt
+on-err-so (Err f) P Q so is = so is

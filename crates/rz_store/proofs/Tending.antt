@@ -1,6 +1,6 @@
 -- Nodes that are started, and nodes that get a new disk.
 use Rattle.std.proofs.Common.{ℕ, ◌≡◌, ◌≢◌, ◌==◌, ◌-◌, ◌^◌, ◌+◌, Bool, true, false, cond, List, ◌∷◌, ◌++◌, Option, Some, None, refl, sym, ◌∙◌, ap, subst, eq-eqb, append_assoc}
-use Rattle.std.specs.Prelude.{Result, Ok, Err, OnOk, IfOk, IfErr, IsTrue}
+use Rattle.std.specs.Prelude.{Result, Ok, Err, OnOk, IfOk, IfErr, IfNone, IsTrue}
 use Rattle.std.proofs.lemmas.Bool.{eqb-true}
 use Rattle.rz_events.specs.declared.ends.RebuildEnd.{RebuildEnd}
 use Rattle.rz_events.specs.declared.ends.RebuildEnd.TheVariants as ends
@@ -46,8 +46,8 @@ has-started kind earlier old new node (start.Started took) log right = λ keeps.
   was = sym (right.tied keeps).phase_is ∙ right.is.0;
   is = ap (λ (h : List Event). phase (of_word (Node node) (h ++ earlier))) log ∙ up-again node took (old.pass.log ++ earlier);
 }
-has-started kind earlier old new node (start.NotDown) log right = tt
-has-started kind earlier old new node (start.NoMemory) log right = tt
+has-started kind earlier old new node start.NotDown log right = tt
+has-started kind earlier old new node start.NoMemory log right = tt
 has-started kind earlier old new node (start.Unopened why) log right = tt
 
 pub start-cause : (kind : List ℕ) (earlier : List Event) (old : SoleView) (node : ℕ) (given : StartAnswer) → IsAnswerAt kind earlier old.pass.log node ask.Start (answer.Start given)
@@ -83,7 +83,12 @@ has-refilled kind earlier old new node (Ok (ends.Left fence refilled left)) has 
   tells = refl;
   complete = λ none. absurd (left-some (volume_in kind).layout new.pass.actor has.number node fence refilled left has.events (has.course keeps) none);
 }
-has-refilled kind earlier old new node (Ok (_)) has = tt
+has-refilled kind earlier old new node (Ok ends.NotLost) has = tt
+has-refilled kind earlier old new node (Ok (ends.OtherLoss now)) has = tt
+has-refilled kind earlier old new node (Ok (ends.OtherFence now)) has = tt
+has-refilled kind earlier old new node (Ok ends.LostAgain) has = tt
+has-refilled kind earlier old new node (Ok ends.DiskFault) has = tt
+has-refilled kind earlier old new node (Ok (ends.Denied why)) has = tt
 has-refilled kind earlier old new node (Err why) has = tt
 
 pub rebuild-cause : (kind : List ℕ) (earlier : List Event) (old new : SoleView) (node : ℕ) (ended : Result RebuildEnd Stop) → IfOk ended (turns.HasRebuilt kind earlier node old new)
@@ -101,8 +106,13 @@ rebuild-cause kind earlier old new node (Err why) has = λ keeps. tt
 pub disk-taken : (ended : Result RebuildEnd Stop) → IfErr (rebuild_told ended) (λ f. ¬ IsUnreplaced f)
 disk-taken (Ok (ends.Rebuilt fence refilled)) = tt
 disk-taken (Ok (ends.Left fence refilled left)) = tt
-disk-taken (Ok (_)) = λ no. no
-disk-taken (Err why) = λ no. no
+disk-taken (Ok ends.NotLost) = λ never. never
+disk-taken (Ok (ends.OtherLoss now)) = λ never. never
+disk-taken (Ok (ends.OtherFence now)) = λ never. never
+disk-taken (Ok ends.LostAgain) = λ never. never
+disk-taken (Ok ends.DiskFault) = λ never. never
+disk-taken (Ok (ends.Denied why)) = λ never. never
+disk-taken (Err why) = λ never. never
 
 -- New disks.
 
@@ -135,8 +145,8 @@ next-spent : (count : ℕ) → None ≡ next_loss count → count ≡ 2 ^ 64 - 1
 next-spent count is = go (count == 2 ^ 64 - 1) refl is
   where
     go : (b : Bool) → (count == 2 ^ 64 - 1) ≡ b → None ≡ cond b None (Some (count + 1)) → count ≡ 2 ^ 64 - 1
-    go true yes none = eqb-true count (2 ^ 64 - 1) yes
-    go false no none = absurd (cc)
+    go true same none = eqb-true count (2 ^ 64 - 1) same
+    go false other none = absurd (cc)
 
 lose-spent : (p : Phase) (count : ℕ) → None ≡ lose_in p count → ¬ (p ≡ Lost) → count ≡ 2 ^ 64 - 1
 lose-spent Lost count is not = absurd (not refl)
@@ -151,3 +161,7 @@ swap-cause kind earlier old node unswapped.LossesSpent new right keeps = λ ther
     (let at = right refl in
     let tied = at.tied keeps in
     sym tied.losses_is ∙ lose-spent at.state.phase at.state.losses at.is (λ lost. there (sym tied.phase_is ∙ lost)))
+
+pub none-so : {A : Type 0} (o : Option A) (P Q : Type 0) → (P → Q) → IfNone o P → IfNone o Q
+none-so None P Q so is = so is
+none-so (Some x) P Q so is = tt

@@ -3,6 +3,7 @@ ghost use Rattle.std.specs.Prelude.{◌≡◌, ◌==◌, ◌↔◌, false, Some,
 ghost use Rattle.std.specs.List.{find};
 ghost use Rattle.rz_core.specs.NodeRows.{IsNodeOf};
 ghost use Rattle.rz_chronicle.specs.Keys.{IsLater};
+ghost use Rattle.rz_store_turns.specs.Telling.{AreMissing};
 ghost use Rattle.rz_store.specs.Store.{IfLegal, LooksSame};
 ghost use Rattle.rz_store.specs.Nodes.{spec_in, phase_in, IsRoomOf, start_told, HasStarted, IsStartCause, rebuild_told, swap_told, HasRefilled, IsRebuildCause, HasReplaced, IsReplaceCause, IsUnreplaced};
 
@@ -103,8 +104,7 @@ impl<D: Disk, J: Metering> Store<D, J> {
     pub fn room<R: Wait>(&mut self, rt: &R, node: u16) -> Option<NodeRoom>
         ensures room { IfSome result (λ room. IfLegal J.kind (IsRoomOf self.old node room)) }
         ensures away { IfNone result (IfLegal J.kind (IsNodeOf self.old.volume node → ¬ (phase_in self.old node ≡ Phase.Up))) }
-        ensures log { self.new.log ≡ self.old.log }
-        ensures volume { self.new.volume ≡ self.old.volume }
+        ensures same { self.new ≡ self.old }
     {
         let Some(spec) = find_node(self.sole.volume(), node) else {
             return None;
@@ -116,6 +116,21 @@ impl<D: Disk, J: Metering> Store<D, J> {
             pairs: spec.cells,
             used,
         })
+    }
+
+    /// Of how many published blocks of live files a node lacks the record, though their published masks name it, or
+    /// 2^64 - 1 where there are more. Nothing is told of a node whose disk is away, and of a number that no node has.
+    /// The journal may stop it.
+    pub fn missing<R: Wait>(&mut self, rt: &R, node: u16) -> Result<Option<u64>, Stop>
+        ensures counted { IfOk result (λ told. IfSome told (λ count. IfLegal J.kind (AreMissing self.old.volume self.old.log node count))) }
+        ensures away { IfOk result (λ told. IfNone told (IfLegal J.kind (IsNodeOf self.old.volume node → ¬ (phase_in self.old node ≡ Phase.Up)))) }
+        ensures refused { OnErr result (IsTrue (is_some J.journal)) }
+        ensures same { self.new ≡ self.old }
+    {
+        if !has_node(self.sole.volume(), node) {
+            return Ok(None);
+        }
+        self.sole.missing(rt, node)
     }
 
     /// How much room the journal has, if there is one.
