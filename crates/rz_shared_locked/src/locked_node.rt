@@ -229,6 +229,7 @@ impl<D: Disk, J: Metering> LockedNode<D, J> {
         ensures node { IsTrue result → self.new.node ≡ node }
         ensures room { IsTrue result → count_at (word_key (w.Node self.new.node)) self.new.log + 1 < 2 ^ 62 }
         ensures enters { self.new.node ≡ node → count_at (word_key (w.Node self.new.node)) self.new.log + 1 < 2 ^ 62 → IsTrue result }
+        ensures fit { IsFit J.kind pass.new.log }
     {
         crate::laws::locked_node_kept();
         rz_node_laws::longer::<D>();
