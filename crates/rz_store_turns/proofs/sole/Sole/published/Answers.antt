@@ -23,8 +23,25 @@ invariant_of-self g c =
     (λ (z : PassView). IsSole g.J.Naming.kind g.J.Naming.earlier c.self.inside.shared.volume c.self.inside.shared.cluster (record { pass = z; number = c.self.inside.number; client = c.self.inside.client; rebuilder = c.self.inside.rebuilder }) c.self.inside.bins.items)
     (sym (same-pass p q c.published-told.ensures.same log)) c.self.invariant
 
-pub returns-clause-same : goal.returns-clause-same
-returns-clause-same g c =
+pub invariant_of-self-in-Err : goal.invariant_of-self-in-Err
+invariant_of-self-in-Err g c =
+    let p = c.self.inside.pass in
+    let q = c.published-told.new.pass in
+    let log = added-log g.J.Naming.kind c.added_alone.ensures p.keys c.self.invariant.tokens p.log p.log q.log refl c.actor-by.ensures.places None c.published-told.ensures.nothing in
+    subst
+    (λ (z : PassView). IsSole g.J.Naming.kind g.J.Naming.earlier c.self.inside.shared.volume c.self.inside.shared.cluster (record { pass = z; number = c.self.inside.number; client = c.self.inside.client; rebuilder = c.self.inside.rebuilder }) c.self.inside.bins.items)
+    (sym (same-pass p q c.published-told.ensures.same log)) c.self.invariant
+
+pub returns-in-Ok-clause-same : goal.returns-in-Ok-clause-same
+returns-in-Ok-clause-same g c =
+    let p = c.self.inside.pass in
+    let q = c.published-told.new.pass in
+    let log = added-log g.J.Naming.kind c.added_alone.ensures p.keys c.self.invariant.tokens p.log p.log q.log refl c.actor-by.ensures.places None c.published-told.ensures.nothing in
+    ap (λ (z : PassView). record { pass = z; number = c.self.inside.number; client = c.self.inside.client; rebuilder = c.self.inside.rebuilder }) (same-pass p q c.published-told.ensures.same log)
+    ∙ c.self.view_is
+
+pub returns-in-Err-clause-same : goal.returns-in-Err-clause-same
+returns-in-Err-clause-same g c =
     let p = c.self.inside.pass in
     let q = c.published-told.new.pass in
     let log = added-log g.J.Naming.kind c.added_alone.ensures p.keys c.self.invariant.tokens p.log p.log q.log refl c.actor-by.ensures.places None c.published-told.ensures.nothing in
