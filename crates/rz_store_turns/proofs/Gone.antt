@@ -1,6 +1,6 @@
 -- Turns of a rebuild and the words that it says, beside which nobody acts.
 use Rattle.std.proofs.Common.{ℕ, Bool, true, false, ◌≡◌, List, [], ◌∷◌, ◌++◌, Option, Some, None, refl, sym, ◌∙◌, ap, subst, append_assoc}
-use Rattle.std.specs.Prelude.{IsTrue}
+use Rattle.std.specs.Prelude.{IsTrue, IfSome, IfOk, Result, Ok, Err}
 use Rattle.std.proofs.lemmas.List.{append-nil}
 use Rattle.mj_angles.specs.declared.layout.Layout.{Layout}
 use Rattle.rz_events.specs.Volume.{Volume}
@@ -23,7 +23,8 @@ use Rattle.rz_contents.specs.Model.{IsStill}
 use Rattle.rz_contents.specs.Putting.{IsCourseFrom, Starts, Goes}
 use Rattle.rz_contents.specs.Files.{IsSilentCourse, Begins, Turns}
 use Rattle.rz_contents.specs.Mending.{IsRebuildCourse, IsRebuildEnding, AreRebuildsStill, IsRebuildWhole}
-use Rattle.rz_store_turns.specs.Sole.{SoleView, IsSameTurn}
+use Rattle.rz_store_turns.specs.Sole.{SoleView, IsInHand, IsSameTurn}
+use Rattle.rz_store_turns.specs.declared.sole.Stop.{Stop}
 use Rattle.rz_store_turns.specs.Runs.{HasRun, HasTurned}
 use Rattle.rz_store_turns.specs.Performed.{IsQuiet}
 use Rattle.rz_store_turns.specs.Rebuilt.{rebuild_end, HasGone, HasEnded, HasRebuilt, IsWholeIfRebuilt}
@@ -113,6 +114,30 @@ said-end kind number old new m m' end turned is =
       course = λ keeps. (m.work, Starts, asked);
     }
 
+-- Turns of an operation in hand, after those that led to `mid`.
+module _ (kind : List ℕ) (earlier : List Event) (old mid new : SoleView) (m n : Machine) (same : IsSameTurn old mid) (hand : IsInHand kind earlier old m) (there : IsInHand kind earlier mid n)
+    (gone : HasGone kind old.number old.pass mid.pass m n) where
+  pub more-gone : (o : Machine) → HasGone kind mid.number mid.pass new.pass n o → HasGone kind old.number old.pass new.pass m o
+  more-gone o more =
+      gone-then kind old.number old.pass mid.pass new.pass m n same.actor (there.layout ∙ sym hand.layout) gone o
+      (subst (λ (k : ℕ). HasGone kind k mid.pass new.pass n o) same.number more)
+
+  pub more-ended : (end : RebuildEnd) → HasEnded kind mid.number mid.pass new.pass n end → HasEnded kind old.number old.pass new.pass m end
+  more-ended end more =
+      ended-then kind old.number old.pass mid.pass new.pass m n same.actor (there.layout ∙ sym hand.layout) gone end
+      (subst (λ (k : ℕ). HasEnded kind k mid.pass new.pass n end) same.number more)
+
+  pub said-gone : (o : Machine) → HasTurned kind mid.number mid.pass new.pass n o → HasGone kind old.number old.pass new.pass m o
+  said-gone o turned = more-gone o (turn-gone kind mid.number mid.pass new.pass n o turned)
+
+  pub said-if : (o : Machine) (said : Option RebuildEnd) → said ≡ rebuild_end (ask_of n.layout n.work) → HasTurned kind mid.number mid.pass new.pass n o
+      → IfSome said (λ end. HasEnded kind old.number old.pass new.pass m end)
+  said-if o None is turned = tt
+  said-if o (Some end) is turned = more-ended end (said-end kind mid.number mid.pass new.pass n o end turned (sym is))
+
+pub same-then : (a b c : SoleView) → IsSameTurn a b → IsSameTurn b c → IsSameTurn a c
+same-then a b c x y = record { actor = y.actor ∙ x.actor; number = y.number ∙ x.number; client = y.client ∙ x.client; rebuilder = y.rebuilder ∙ x.rebuilder }
+
 -- The whole rebuild: `mid` has the operation in hand, and `last` came of its turns.
 module _ (kind : List ℕ) (earlier : List Event) (node : ℕ) (old mid last new : SoleView) (m m' : Machine) where
   abbrev Keeps : Type 0
@@ -168,3 +193,8 @@ module _ (kind : List ℕ) (earlier : List Event) (node : ℕ) (old mid last new
             subst (λ (h : List Event). IsWholeIfRebuilt h node (ends.Rebuilt fence refilled)) (sym all)
             (law (old.pass.log ++ earlier) events new.pass.actor mid.number node fence refilled (subst (IsLegalInRuns v) all at) course)
         its-whole law (_) events log course at = tt
+
+    pub rebuilt-if : IsRebuildWhole v → (Keeps → IsLegalInRuns v (new.pass.log ++ earlier)) → IsSameTurn mid last → (r : Result RebuildEnd Stop)
+        → IfOk r (λ end. HasEnded kind mid.number mid.pass last.pass m end) → IfOk r (λ end. HasRebuilt kind earlier node old new end)
+    rebuilt-if whole legal same (Ok end) ended = rebuild-ended whole legal same end ended
+    rebuilt-if whole legal same (Err why) ended = tt

@@ -31,6 +31,13 @@ use Rattle.rz_store_turns.specs.Runs.{GoesAlone}
 pub unmoved : (kind ks : List ℕ) (old new : List Event) → IsAddedAlone → HoldsAll ks → HavePlaces kind new → IsLater old new → Stays ks old new → new ≡ old
 unmoved kind ks old new alone all places later stays = alone kind ks old new (λ a member. (all a member).0) places later stays
 
+-- so the pass is as it was
+pub same-pass : (p q : PassView) → (q.actor ≡ p.actor) × (q.keys ≡ p.keys) → q.log ≡ p.log → q ≡ p
+same-pass p q same log =
+    ap (λ (a : Actor). record { actor = a; log = q.log; keys = q.keys }) same.0
+    ∙ ap (λ (ks : List ℕ). record { actor = p.actor; log = q.log; keys = ks }) same.1
+    ∙ ap (λ (h : List Event). record { actor = p.actor; log = h; keys = p.keys }) log
+
 -- at first nobody has one open
 pub none-open : (client rebuilder : ℕ) → AreFree [] client rebuilder
 none-open client rebuilder = record { clients = λ n low. tt; rebuilders = λ n low. tt }

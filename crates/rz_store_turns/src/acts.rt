@@ -76,6 +76,7 @@ impl<D: Disk, J: Metering> Sole<D, J> {
         requires hand { IsInHand J.kind J.earlier self.old machine.old }
         ensures same { IsSameTurn self.old self.new }
         ensures turned { OnOk result (HasTurned J.kind self.old.number self.old.pass self.new.pass machine.old machine.new) }
+        ensures stopped { OnErr result (HasRun J.kind self.old.number self.old.pass self.new.pass machine.old machine.new) }
         ensures hand { IsInHand J.kind J.earlier self.new machine.new }
         ensures still { OnErr result (IsTrue (keeps_legal J.kind) → self.new.pass.log ≡ self.old.pass.log) }
     {

@@ -6,10 +6,12 @@
 //! what was there. Where memory or the journal is wanting in the middle of an operation nothing is added, and the
 //! operation stays open. Its actor can then do no other, and the next one comes to its place.
 //!
-//! In reading order: `turns`, `sole`, `acts`, `rebuilding`, `tending`, `joining`, `closing`.
+//! In reading order: `turns`, `sole`, `acts`, `rebuilding`, `tending`, `asking`, `joining`,
+//! `closing`.
 #![tactic(auto)]
 
 mod acts;
+mod asking;
 mod closing;
 mod joining;
 mod rebuilding;
