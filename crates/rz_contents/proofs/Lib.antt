@@ -14,4 +14,3 @@ pub mod Watched
 pub mod PutCauses
 pub mod GetCauses
 pub mod Sizes
-pub mod Published

@@ -13,21 +13,18 @@ use Rattle.rz_events.specs.declared.tree.TreeFault.{TreeFault}
 use Rattle.rz_events.specs.declared.events.Answer.{Answer}
 use Rattle.rz_events.specs.declared.events.Answer.TheVariants as answer
 use Rattle.rz_events.specs.declared.events.Event.{Event}
-use Rattle.rz_events.specs.declared.ends.WriteEnd.TheVariants as write
-use Rattle.rz_client_model.specs.declared.writing.WriterState.{WriterState}
 use Rattle.rz_client_model.specs.declared.writing.WriteStage.{WriteStage}
 use Rattle.rz_client_model.specs.declared.writing.WriteStage.TheVariants as writing
 use Rattle.rz_export_model.specs.Tree.{Tree, Found, found_at}
 use Rattle.rz_export_model.specs.Refusals.{path_in, refusal}
 use Rattle.rz_export_model.specs.TreeCalls.{tree_after}
 use Rattle.rz_export_model.specs.Export.{new_places}
-use Rattle.rz_operation_model.specs.Work.{Work, Course, BlockPlan, OnBlock, PutBlock, GetBlock, Alone, Calling, Dropping, Opening, Writing, Reading, Ending, Over}
+use Rattle.rz_operation_model.specs.Work.{Work, BlockPlan, OnBlock, PutBlock, GetBlock, Alone, Calling, Dropping, Opening, Writing, Reading, Ending, Over}
 use Rattle.rz_operation_model.specs.Ask.{Ask, Say, ask_of}
 use Rattle.rz_operation_model.specs.Steps.{Told, told}
 use Rattle.rz_operation_model.specs.Turns.{IsStep}
 use Rattle.rz_core.specs.ExportRows.{names_reply}
 use Rattle.rz_core.specs.Legal.{IsLegalInRuns}
-use Rattle.rz_contents.specs.Contents.{IsUnpublished}
 use Rattle.rz_contents.specs.Model.{Model, model_of, export_at, IsSame}
 use Rattle.rz_contents.specs.Putting.{model_put}
 
@@ -100,12 +97,6 @@ abbrev pub IsPutWatched : Volume → Type 0
 IsPutWatched v = (old xs : List Event) (by : Actor) (number : ℕ) (path : List ℕ) (block : ℕ) (text : List ℕ) (work : Work) → IsLegalInRuns v (xs ++ old)
     → IsSilentCourse v.layout by number (Opening path (OnBlock (PutBlock block text))) xs work
     → IsPutSeen v (model_of v old) text (model_of v (xs ++ old)) work
-
--- A put that was acknowledged has published its block.
-abbrev pub ArePutsPublished : Type 0
-ArePutsPublished = (layout : Layout) (by : Actor) (number : ℕ) (path : List ℕ) (block : ℕ) (text : List ℕ) (xs : List Event) (course : Course) (written : List ℕ) (s : WriterState) (stamp mask : ℕ)
-    → IsSilentCourse layout by number (Opening path (OnBlock (PutBlock block text))) xs (Writing course written s) → s.stage ≡ writing.Ended (write.Acked stamp mask)
-    → ¬ IsUnpublished s.key xs
 
 -- A get makes nothing of it.
 

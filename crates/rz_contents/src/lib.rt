@@ -21,7 +21,6 @@
 //! - [`leads_to_block`], [`put_watched`], [`get_watched`], [`calls_watched`]: the same of an operation that stands
 //!   anywhere, so that one which is cut off is known too: to which file its path led, and what it has made of the
 //!   store. A call on names does to them what it says as soon as it is replied to.
-//! - [`put_published`]: a put that was acknowledged has published its block.
 //! - [`puts_caused`], [`gets_caused`]: why a put or a get beside which nobody acts did not end well.
 //! - [`covered`]: the text of a block is no longer than a block, and ends where its file does or before.
 //!
@@ -40,7 +39,7 @@ ghost use Rattle.rz_contents.specs.Putting.{IsPutAlone};
 ghost use Rattle.rz_contents.specs.Getting.{IsGetAlone};
 ghost use Rattle.rz_contents.specs.Mending.{AreRebuildsStill, IsRebuildAlone, IsRebuildWhole};
 ghost use Rattle.rz_contents.specs.Removing.{StaysGone};
-ghost use Rattle.rz_contents.specs.Files.{LeadsToBlock, IsPutWatched, ArePutsPublished, IsGetWatched, IsCallWatched};
+ghost use Rattle.rz_contents.specs.Files.{LeadsToBlock, IsPutWatched, IsGetWatched, IsCallWatched};
 ghost use Rattle.rz_contents.specs.Causes.{ArePutsCaused, AreGetsCaused};
 ghost use Rattle.rz_contents.specs.Sizes.{AreCovered};
 ghost use Rattle.rz_contents.specs.Ranges.{WritesPatch, WritesTogether, ReadsText, ReadsTogether};
@@ -149,11 +148,6 @@ pub fn leads_to_block()
 /// the size of its file.
 pub fn put_watched()
     ensures { (v : Volume) → IsPutWatched v }
-{}
-
-/// A put that was acknowledged has published its block.
-pub fn put_published()
-    ensures { ArePutsPublished }
 {}
 
 /// A get beside which nobody acts changes nothing, however far it came.

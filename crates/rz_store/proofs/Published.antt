@@ -11,6 +11,7 @@ use Rattle.rz_events.specs.declared.ends.WriteEnd.TheVariants as write
 use Rattle.rz_events.specs.declared.events.Answer.{Answer}
 use Rattle.rz_events.specs.declared.events.Answer.TheVariants as answer
 use Rattle.rz_events.specs.declared.events.Event.{Event}
+use Rattle.rz_events.specs.declared.events.Event.TheVariants as e
 use Rattle.rz_events.specs.declared.machines.WriterAsk.TheVariants as asks
 use Rattle.rz_events.specs.declared.operations.Datum.TheVariants as datum
 use Rattle.rz_events.specs.declared.operations.Operation.TheVariants as operation
@@ -24,9 +25,13 @@ use Rattle.rz_operation_model.specs.Work.{Work, Course, OnBlock, PutBlock, Openi
 use Rattle.rz_operation_model.specs.Ask.{Say, SayDone, ask_of, is_part, write_asks}
 use Rattle.rz_operation.specs.Machine.{Machine}
 use Rattle.rz_chronicle.specs.Kinds.{keeps_legal, volume_in}
-use Rattle.rz_contents.specs.Contents.{publishes, IsUnpublished}
+use Rattle.rz_core.proofs.Stamps.{same_key-refl}
+use Rattle.rz_contents.specs.Contents.{IsUnpublished}
+use Rattle.rz_contents.specs.Putting.{IsPutStage, IsPublished}
+use Rattle.rz_contents.proofs.Opened.{loud}
+use Rattle.rz_contents.proofs.Putting.{puts_once}
 use Rattle.rz_contents.specs.Model.{model_of}
-use Rattle.rz_contents.specs.Files.{IsFileAt, key_in, IsBlockAt, IsOnBlock, IsSilentCourse, LeadsToBlock, ArePutsPublished}
+use Rattle.rz_contents.specs.Files.{IsFileAt, key_in, IsBlockAt, IsOnBlock, IsSilentCourse, LeadsToBlock}
 use Rattle.rz_store_turns.specs.Sole.{SoleView, IsInHand}
 use Rattle.rz_store_turns.specs.Performed.{HasCome, IsQuiet}
 use Rattle.rz_store.specs.declared.faults.WriteFault.{WriteFault}
@@ -35,7 +40,24 @@ use Rattle.rz_store.specs.Store.{HasPublished}
 use Rattle.rz_store.proofs.Renewed.{front-published}
 use Rattle.rz_store.proofs.Wholes.{view, whole, come-log, come-legal}
 
-module _ (law : ArePutsPublished) (names : Tree) (layout : Layout) (by : Actor) (number : ℕ) (path text : List ℕ) (block : ℕ) (xs : List Event) where
+-- A put that was acknowledged has published its block.
+abbrev ArePutsPublished : Type 0
+ArePutsPublished = (layout : Layout) (by : Actor) (number : ℕ) (path : List ℕ) (block : ℕ) (text : List ℕ) (xs : List Event) (course : Course) (written : List ℕ) (s : WriterState) (stamp mask : ℕ)
+    → IsSilentCourse layout by number (Opening path (OnBlock (PutBlock block text))) xs (Writing course written s) → s.stage ≡ writing.Ended (write.Acked stamp mask)
+    → ¬ IsUnpublished s.key xs
+
+law : ArePutsPublished
+law layout by number path block text xs course written s stamp mask silent ended =
+    let put = puts_once layout by number path block text xs (Writing course written s)
+    (loud layout by number (Opening path (OnBlock (PutBlock block text))) xs (Writing course written s) silent) in
+    let done : IsPublished by xs s.key stamp mask text = subst (λ (stage : WriteStage). IsPutStage by xs s.key text stage) ended put.2 in
+    λ none.
+    (let first : IsUnpublished s.key (e.Publish by s.key stamp mask None ∷ done.earlier) = subst (λ (ys : List Event). IsUnpublished s.key ys) done.xs_is none in
+    let not-published = first.0 in
+    let published = same_key-refl s.key in
+    absurd (cc))
+
+module _ (names : Tree) (layout : Layout) (by : Actor) (number : ℕ) (path text : List ℕ) (block : ℕ) (xs : List Event) where
   -- the block to which the path leads is published by these events
   abbrev pub IsPublishedIn : Type 0
   IsPublishedIn = (file : Found) × IsFileAt names path file × ¬ IsUnpublished (key_in file block) xs
@@ -79,7 +101,7 @@ ok-so : {T E : Type 0} (r : Result T E) (P Q : Type 0) → (P → Q) → OnOk r 
 ok-so (Ok x) P Q so is = so is
 ok-so (Err f) P Q so is = tt
 
-module _ (kind : List ℕ) (earlier : List Event) (path text : List ℕ) (block : ℕ) (law : ArePutsPublished) (leads : LeadsToBlock (volume_in kind)) where
+module _ (kind : List ℕ) (earlier : List Event) (path text : List ℕ) (block : ℕ) (leads : LeadsToBlock (volume_in kind)) where
   pub put-published : (old new last : SoleView) (m : Machine) (come : HasCome kind earlier (operation.Put path block (datum.Bytes text)) old new m.work) → IsInHand kind earlier new m
       → IsTrue (keeps_legal kind) → IsQuiet kind earlier new last → (told : Result (Unit {0}) WriteFault) → told ≡ put_told (ask_of m.layout m.work)
       → OnOk told (HasPublished (view kind earlier old) path block (view kind earlier last))
@@ -88,14 +110,14 @@ module _ (kind : List ℕ) (earlier : List Event) (path text : List ℕ) (block 
       let by = new.pass.actor in
       let names : Tree = (model_of v (whole kind earlier old)).names in
       let on = leads (whole kind earlier old) come.events by new.number path (PutBlock block text) m.work (come-legal kind earlier (operation.Put path block (datum.Bytes text)) old new m.work come keeps) (come.course keeps) in
-      let said : OnOk (put_told (ask_of v.layout m.work)) (IsPublishedIn law names v.layout by new.number path text block come.events) =
-      told-published law names v.layout by new.number path text block come.events m.work on (come.course keeps) in
+      let said : OnOk (put_told (ask_of v.layout m.work)) (IsPublishedIn names v.layout by new.number path text block come.events) =
+      told-published names v.layout by new.number path text block come.events m.work on (come.course keeps) in
       let log : last.pass.log ++ earlier ≡ (quiet.events ++ come.events) ++ (old.pass.log ++ earlier) =
       ap (λ (h : List Event). h ++ earlier) (quiet.log keeps) ∙ append_assoc quiet.events new.pass.log earlier
       ∙ ap (λ (h : List Event). quiet.events ++ h) (come-log kind earlier (operation.Put path block (datum.Bytes text)) old new m.work come) ∙ sym (append_assoc quiet.events come.events (old.pass.log ++ earlier)) in
       subst (λ (r : Result (Unit {0}) WriteFault). OnOk r (HasPublished (view kind earlier old) path block (view kind earlier last))) (sym (is ∙ ap (λ (y : Layout). put_told (ask_of y m.work)) hand.layout))
-      (ok-so (put_told (ask_of v.layout m.work)) (IsPublishedIn law names v.layout by new.number path text block come.events) (HasPublished (view kind earlier old) path block (view kind earlier last))
-      (λ (p : IsPublishedIn law names v.layout by new.number path text block come.events). record {
+      (ok-so (put_told (ask_of v.layout m.work)) (IsPublishedIn names v.layout by new.number path text block come.events) (HasPublished (view kind earlier old) path block (view kind earlier last))
+      (λ (p : IsPublishedIn names v.layout by new.number path text block come.events). record {
         file = p.0;
         at = p.1;
         published = (quiet.events ++ come.events, log, λ none. p.2 (front-published (key_in p.0 block) quiet.events come.events none));

@@ -137,7 +137,6 @@ impl<D: Disk, J: Metering> Store<D, J> {
     {
         rz_contents::leads_to_block();
         rz_contents::put_watched();
-        rz_contents::put_published();
         rz_contents::puts_caused();
         rz_contents::still();
         let op = put_of(self.sole.alloc(), path, block, bytes)?;

@@ -171,5 +171,5 @@ returns-clause-published g c =
     let told = c.put_told-told.result in
     subst (λ (z : StoreView). OnOk told (IfLegal K (HasPublished z path c.args.block (view K E last)))) c.self.view_is
     (ok-if told (HasPublished (view K E old) path c.args.block (view K E last)) (λ keeps.
-    put-published K E path bytes c.args.block c.put_published.ensures (c.leads_to_block.ensures (volume_in K)) old new last m come c.in_ok-performed.ensures.hand keeps
+    put-published K E path bytes c.args.block (c.leads_to_block.ensures (volume_in K)) old new last m come c.in_ok-performed.ensures.hand keeps
     c.conclude-said.ensures.quiet told c.put_told-told.ensures))
