@@ -86,8 +86,7 @@ module _ (kind : List ℕ) (number : ℕ) (old mid new : PassView) (m n : Machin
         let last = b.course keeps in
         let later : IsCourseFrom m.layout old.actor number n.work b.events last.0 =
         subst (λ (y : Layout). IsCourseFrom y old.actor number n.work b.events last.0) layout
-        (subst (λ (c : Actor). IsCourseFrom n.layout c number n.work b.events last.0) actor last.1) in
-        (
+        (subst (λ (c : Actor). IsCourseFrom n.layout c number n.work b.events last.0) actor last.1) in (
           last.0,
           course-then m.layout old.actor number m.work n.work last.0 a.events b.events (a.course keeps) later,
           subst (λ (y : Layout). ask_of y last.0 ≡ Say (SayDone (answers.Rebuild end))) layout last.2,
@@ -179,16 +178,16 @@ module _ (kind : List ℕ) (earlier : List Event) (node : ℕ) (old mid last new
         ∙ ap (λ (l : List Event). e.Done mid.pass.actor mid.number (answers.Rebuild end) ∷ ended.events ++ l) began
         ∙ ap (λ (a : Actor). e.Done a mid.number (answers.Rebuild end) ∷ ended.events ++ old.pass.log) by in
         let course : Keeps → IsRebuildEnding v.layout new.pass.actor mid.number node ended.events end = λ keeps.
-            let c = ended.course keeps in
-            subst (λ (a : Actor). IsRebuildEnding v.layout a mid.number node ended.events end) by
-            (c.0, its-course ended.events c.0 c.1, subst (λ (y : Layout). ask_of y c.0 ≡ Say (SayDone (answers.Rebuild end))) layout c.2) in
+        let c = ended.course keeps in
+        subst (λ (a : Actor). IsRebuildEnding v.layout a mid.number node ended.events end) by
+        (c.0, its-course ended.events c.0 c.1, subst (λ (y : Layout). ask_of y c.0 ≡ Say (SayDone (answers.Rebuild end))) layout c.2) in
         record { number = mid.number; events = ended.events; log = log; course = course; whole = λ keeps. its-whole whole end ended.events log (course keeps) (legal keeps) }
       where
         its-whole : IsRebuildWhole v → (end : RebuildEnd) (events : List Event) → new.pass.log ≡ e.Done new.pass.actor mid.number (answers.Rebuild end) ∷ events ++ old.pass.log
             → IsRebuildEnding v.layout new.pass.actor mid.number node events end → IsLegalInRuns v (new.pass.log ++ earlier) → IsWholeIfRebuilt (new.pass.log ++ earlier) node end
         its-whole law (ends.Rebuilt fence refilled) events log course at =
             let x : Event = e.Done new.pass.actor mid.number (answers.Rebuild (ends.Rebuilt fence refilled)) in
-            let all : new.pass.log ++ earlier ≡ x ∷ events ++ old.pass.log ++ earlier =
+            let all : new.pass.log ++ earlier ≡ x ∷ events ++ (old.pass.log ++ earlier) =
             ap (λ (l : List Event). l ++ earlier) log ∙ ap (λ (l : List Event). x ∷ l) (append_assoc events old.pass.log earlier) in
             subst (λ (h : List Event). IsWholeIfRebuilt h node (ends.Rebuilt fence refilled)) (sym all)
             (law (old.pass.log ++ earlier) events new.pass.actor mid.number node fence refilled (subst (IsLegalInRuns v) all at) course)

@@ -121,8 +121,7 @@ module _ {D : Type 0} (tells : Bool) (meter : D → Meter) (image : D → List �
       subst (λ (v : Volume). AllTextsOf v (image j.journal.disk) (changing_calls h)) of (left.2 told)
   by-refusal j (Some Failed) is of m =
       let c = (m legal).0 in
-      let left = subst (λ (why : Option JournalRefusal). Left j why c) is (m legal).1 in
-      (
+      let left = subst (λ (why : Option JournalRefusal). Left j why c) is (m legal).1 in (
         c,
         subst (λ (v : Volume). (text : List ℕ) → image j.journal.disk text → IsTextOf v text (changing_calls h) ⊎ IsTextOf v text (changing_calls h ++ c ∷ [])) of (left.1 told),
       )

@@ -7,3 +7,5 @@ pub mod Gathered
 pub mod Leaving
 pub mod Losses
 pub mod Tended
+pub mod Swapped
+mod Counted

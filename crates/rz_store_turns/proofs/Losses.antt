@@ -1,5 +1,5 @@
 -- A node that may lose no disk more is lost: fewer disks can be lost in a log than a count of 64 bits holds.
-use Rattle.std.proofs.Common.{ℕ, Bool, true, false, ◌==◌, ◌≡◌, ◌≤◌, ◌<◌, ◌+◌, ◌-◌, ◌^◌, List, [], ◌∷◌, length, Option, Some, None, cond, refl, sym, ◌∙◌, subst, arith}
+use Rattle.std.proofs.Common.{ℕ, Bool, true, false, ◌==◌, ◌≡◌, ◌≤◌, ◌<◌, ◌+◌, ◌-◌, ◌^◌, List, [], ◌∷◌, length, Some, None, cond, refl, sym, ◌∙◌, subst, arith}
 use Rattle.std.proofs.lemmas.Bool.{eqb-true}
 use Rattle.rz_events.specs.Volume.{Volume}
 use Rattle.rz_events.specs.declared.nodes.Phase.{Phase}
@@ -7,8 +7,6 @@ use Rattle.rz_events.specs.declared.nodes.Phase.TheVariants.{Up, Down, Lost}
 use Rattle.rz_events.specs.declared.events.Event.{Event}
 use Rattle.rz_events.specs.declared.events.Event.TheVariants as e
 use Rattle.rz_events.specs.declared.events.Word.{Word}
-use Rattle.rz_events.specs.declared.events.Word.TheVariants.{Node}
-use Rattle.rz_events.specs.Events.{word_of}
 use Rattle.rz_node_model.specs.States.{NodeState}
 use Rattle.rz_node_model.specs.Answers.{lose_answer, lose_in}
 use Rattle.rz_core.specs.History.{Facts, facts, of_word}

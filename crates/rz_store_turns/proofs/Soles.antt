@@ -1,6 +1,5 @@
 -- Who has no operation open.
-use Rattle.std.proofs.Common.{ℕ, true, false, inl, inr, ◌≡◌, ◌+◌, ◌≤◌, ◌<◌, List, [], ◌++◌, length, take, drop, refl, sym, ◌∙◌, ap, subst, arith, length-append}
-use Rattle.std.specs.Prelude.{IsTrue}
+use Rattle.std.proofs.Common.{ℕ, true, inl, inr, ◌≡◌, ◌+◌, ◌≤◌, List, [], ◌++◌, length, take, drop, refl, sym, ◌∙◌, ap, subst, arith, length-append}
 use Rattle.std.proofs.lemmas.Bool.{cases_lt}
 use Rattle.std.proofs.lemmas.List.{length-take, length-drop}
 use Rattle.rz_events.specs.declared.keys.Actor.{Actor}
@@ -19,7 +18,7 @@ use Rattle.rz_core.specs.Own.{IsBetween}
 use Rattle.rz_play_laws.specs.Own.{IsOwnOf}
 use Rattle.rz_block_laws.specs.ActingLaws.{MayDo}
 use Rattle.rz_chronicle.specs.Holds.{HasAllActors, Stays}
-use Rattle.rz_chronicle.specs.Kinds.{HavePlaces, keeps_legal, volume_in}
+use Rattle.rz_chronicle.specs.Kinds.{HavePlaces, volume_in}
 use Rattle.rz_chronicle.specs.Keys.{IsLater}
 use Rattle.rz_chronicle.specs.Laws.{IsAddedAlone}
 use Rattle.rz_chronicle.specs.Rules.{PassView}

@@ -1,6 +1,6 @@
 -- The administrator's events among those of others, who add nothing.
-use Rattle.std.proofs.Common.{ℕ, true, false, ◌≡◌, List, [], ◌∷◌, ◌++◌, Option, Some, None, cond, refl, sym, ap, ◌∙◌, subst}
-use Rattle.std.specs.Prelude.{IsTrue, IfSome, IfOk, IfErr, Result, Ok, Err}
+use Rattle.std.proofs.Common.{ℕ, false, ◌≡◌, List, [], ◌∷◌, ◌++◌, Option, Some, None, cond, refl, sym, ap, ◌∙◌, subst}
+use Rattle.std.specs.Prelude.{IsTrue, IfSome}
 use Rattle.rz_events.specs.Volume.{Volume}
 use Rattle.rz_events.specs.declared.keys.Actor.{Actor}
 use Rattle.rz_events.specs.declared.keys.Actor.TheVariants.{Client, Rebuilder, Admin}
@@ -20,17 +20,12 @@ use Rattle.rz_core.specs.NodeWord.{phase}
 use Rattle.rz_core.specs.Legal.{IsLegalInRuns}
 use Rattle.rz_core.proofs.NodeLaws.{node}
 use Rattle.rz_play.specs.Lines.{noted}
-use Rattle.rz_chronicle.specs.Holds.{Stays}
-use Rattle.rz_chronicle.specs.Keys.{IsLater}
 use Rattle.rz_chronicle.specs.Kinds.{HavePlaces, keeps_legal, volume_in}
 use Rattle.rz_chronicle.specs.Laws.{IsAddedAlone}
 use Rattle.rz_chronicle.specs.Rules.{PassView}
 use Rattle.rz_contents.specs.Model.{IsStill, changes}
 use Rattle.rz_shared_locked.specs.Adding.{AddsEvent}
 use Rattle.rz_shared_locked.specs.LockedNodes.{Answered, IsAnswerAt}
-use Rattle.rz_shared_locked.specs.declared.swapping.SwapFault.{SwapFault}
-use Rattle.rz_shared_locked.specs.declared.swapping.SwapFault.TheVariants as fault
-use Rattle.rz_shared_locked.specs.Swaps.{IsUnswapped}
 use Rattle.rz_store_turns.specs.Performed.{IsQuiet}
 use Rattle.rz_store_turns.specs.Sole.{HoldsAll, AreFree, IsSole, SoleView}
 use Rattle.rz_store_turns.proofs.Soles.{unmoved}
@@ -49,10 +44,6 @@ start-tends n (start.Unopened fault) = (refl, refl)
 pub lose-tends : (n : ℕ) (loss : Option ℕ) → IfSome (lose_event n loss) IsTending
 lose-tends n (Some loss) = (refl, refl)
 lose-tends n None = tt
-
-pub started-tends : (by : Actor) (n : ℕ) (given : NodeAnswer) → IfSome (node_event by n ask.Start given) IsTending
-started-tends by n (answer.Start a) = start-tends n a
-started-tends by n (_) = tt
 
 -- It is no event of a client or a rebuilder.
 
@@ -129,55 +120,6 @@ swapped-lost kind earlier old new n None log right keeps legal =
     subst (λ (h : List Event). phase (node n (h ++ earlier)) ≡ Lost) (sym log)
     (lost-if-none (volume_in kind) (old ++ earlier) legal n right.state (right.tied keeps) right.is)
 
--- What a swap came to: the node was lost, or nothing happened.
-module _ {T E : Type 0} (loss : T → Option ℕ) (why : E → SwapFault) (n : ℕ) where
-  abbrev pub swap_event : Result T E → Option Event
-  swap_event (Ok s) = lose_event n (loss s)
-  swap_event (Err e) = None
-
-  pub swap-tends : (r : Result T E) → IfSome (swap_event r) IsTending
-  swap-tends (Ok s) = lose-tends n (loss s)
-  swap-tends (Err e) = tt
-
-  module _ (kind : List ℕ) (earlier : List Event) (alone : IsAddedAlone) (ks : List ℕ) (all : HoldsAll ks) (old mid new : List Event) (mid-is : mid ≡ old) (places : HavePlaces kind new) where
-    abbrev pub IsSwapped : T → Type 0
-    IsSwapped s = Answered kind earlier n ask.Lose (answer.Lose (loss s)) (lose_event n (loss s)) ks mid new
-
-    unswapped-log : (f : SwapFault) → IsUnswapped kind earlier n f ks mid new → new ≡ old
-    unswapped-log fault.NoMemory it = added-log kind alone ks all old mid new mid-is places None it
-    unswapped-log fault.LossesSpent it = added-log kind alone ks all old mid new mid-is places None it.adds
-
-    unswapped-spent : (f : SwapFault) → IsUnswapped kind earlier n f ks mid new → f ≡ fault.LossesSpent → IsAnswerAt kind earlier old n ask.Lose (answer.Lose None)
-    unswapped-spent fault.NoMemory it is = cc
-    unswapped-spent fault.LossesSpent it is = added-right kind alone ks all old mid new mid-is places earlier n ask.Lose (answer.Lose None) None it
-
-    module _ (Back : E → Type 0) where
-      abbrev IsBack : E → Type 0
-      IsBack e = Back e × IsUnswapped kind earlier n (why e) ks mid new
-
-      pub swap-log : (r : Result T E) → IfOk r IsSwapped → IfErr r IsBack → new ≡ noted (swap_event r) old
-      swap-log (Ok s) swapped back = added-log kind alone ks all old mid new mid-is places (lose_event n (loss s)) swapped.adds
-      swap-log (Err e) swapped back = unswapped-log (why e) back.1
-
-      pub swapped-log : (r : Result T E) → IfOk r IsSwapped → IfOk r (λ s. new ≡ noted (lose_event n (loss s)) old)
-      swapped-log (Ok s) swapped = added-log kind alone ks all old mid new mid-is places (lose_event n (loss s)) swapped.adds
-      swapped-log (Err e) swapped = tt
-
-      pub swapped-right : (r : Result T E) → IfOk r IsSwapped → IfOk r (λ s. IsAnswerAt kind earlier old n ask.Lose (answer.Lose (loss s)))
-      swapped-right (Ok s) swapped = added-right kind alone ks all old mid new mid-is places earlier n ask.Lose (answer.Lose (loss s)) (lose_event n (loss s)) swapped
-      swapped-right (Err e) swapped = tt
-
-      pub swapped-gone : (r : Result T E) → (IsTrue (keeps_legal kind) → IsLegalInRuns (volume_in kind) (old ++ earlier)) → IfOk r IsSwapped
-          → IfOk r (λ s. IsTrue (keeps_legal kind) → phase (node n (new ++ earlier)) ≡ Lost)
-      swapped-gone (Ok s) legal swapped = λ keeps.
-          swapped-lost kind earlier old new n (loss s) (added-log kind alone ks all old mid new mid-is places (lose_event n (loss s)) swapped.adds)
-          (added-right kind alone ks all old mid new mid-is places earlier n ask.Lose (answer.Lose (loss s)) (lose_event n (loss s)) swapped) keeps (legal keeps)
-      swapped-gone (Err e) legal swapped = tt
-
-      pub swapped-back : (r : Result T E) → IfErr r IsBack → IfErr r (λ e. Back e × (new ≡ old))
-      swapped-back (Ok s) back = tt
-      swapped-back (Err e) back = (back.0, unswapped-log (why e) back.1)
-
-      pub swapped-spent : (r : Result T E) → IfErr r IsBack → IfErr r (λ e. why e ≡ fault.LossesSpent → IsAnswerAt kind earlier old n ask.Lose (answer.Lose None))
-      swapped-spent (Ok s) back = tt
-      swapped-spent (Err e) back = unswapped-spent (why e) back.1
+pub started-tends : (by : Actor) (n : ℕ) (given : NodeAnswer) → IfSome (node_event by n ask.Start given) IsTending
+started-tends by n (answer.Start given) = start-tends n given
+started-tends by n given = tt

@@ -4,3 +4,4 @@ pub mod Performed
 pub mod Rebuilt
 pub mod Joined
 pub mod Closed
+pub mod Telling

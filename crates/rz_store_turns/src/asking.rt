@@ -1,5 +1,5 @@
 //! What stands in a store is told: nothing is added to the log.
-ghost use Rattle.std.specs.Prelude.{◌≡◌, ◌++◌, IsTrue, IsSome, IfSome, IfNone, IfOk, is_some};
+ghost use Rattle.std.specs.Prelude.{◌≡◌, ◌++◌, IsTrue, IsSome, IfSome, IfNone, IfOk, OnErr, is_some};
 ghost use Rattle.rz_events.specs.declared.nodes.Phase.TheVariants as phases;
 ghost use Rattle.rz_events.specs.declared.events.Word.TheVariants as w;
 ghost use Rattle.rz_export_model.specs.Export.{published_after};
@@ -27,7 +27,10 @@ impl<D: Disk, J: Metering> Sole<D, J> {
     {
         rz_chronicle::added_alone();
         let book = &self.shared.book;
-        let count = self.shared.cluster.keys_held(rt, book, &mut self.pass, node);
+        let count = self
+            .shared
+            .cluster
+            .keys_held(rt, book, &mut self.pass, node);
         let _by = self.pass.actor();
         count
     }
@@ -51,13 +54,10 @@ impl<D: Disk, J: Metering> Sole<D, J> {
     }
 
     /// The least published block above `after` of the files that have a name, if there is one.
-    pub fn published<R: Wait>(
-        &mut self,
-        rt: &R,
-        after: Option<Key>,
-    ) -> Result<Option<Listed>, Stop>
+    pub fn published<R: Wait>(&mut self, rt: &R, after: Option<Key>) -> Result<Option<Listed>, Stop>
         ensures same { self.new ≡ self.old }
         ensures listed { IfOk result (λ l. IsTrue (keeps_legal J.kind) → l ≡ published_after (export_at (volume_in J.kind) (self.old.pass.log ++ J.earlier)) after) }
+        ensures refused { OnErr result (IsTrue (is_some J.journal)) }
     {
         rz_chronicle::added_alone();
         let book = &self.shared.book;

@@ -50,12 +50,7 @@ impl<D: Disk, J: Metering> Sole<D, J> {
     /// Loses the disk of a node as the administrator, where that is not lost yet, and puts a new disk in its place,
     /// which the node's rebuild makes anew. Otherwise the new disk comes back, and nothing happened. Users see
     /// nothing of it.
-    pub fn swap<R: Wait>(
-        &mut self,
-        rt: &R,
-        node: u16,
-        disk: D,
-    ) -> Result<Swap<D>, (D, SwapFault)>
+    pub fn swap<R: Wait>(&mut self, rt: &R, node: u16, disk: D) -> Result<Swap<D>, (D, SwapFault)>
         requires node { IsNodeOf (volume_in J.kind) node }
         requires free { J.fixed ≡ false }
         ensures log { IfOk result (λ s. self.new.pass.log ≡ noted (lose_event node s.loss) self.old.pass.log) }

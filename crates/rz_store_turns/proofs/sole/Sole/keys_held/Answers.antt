@@ -1,4 +1,4 @@
-use Rattle.std.proofs.Common.{◌≡◌, ◌∙◌, ◌++◌, refl, sym, ap, subst, List, Option, None}
+use Rattle.std.proofs.Common.{◌≡◌, ◌∙◌, ◌++◌, refl, sym, ap, subst, List, None}
 use Rattle.std.specs.Prelude.{IsTrue, IfSome, IfNone}
 use Rattle.rz_events.specs.declared.nodes.Phase.TheVariants.{Up}
 use Rattle.rz_events.specs.declared.events.Word.TheVariants.{Node}

@@ -1,13 +1,8 @@
-use Rattle.std.proofs.Common.{◌≡◌, ◌∙◌, ◌++◌, refl, sym, ap, subst, List, Option, None}
-use Rattle.std.specs.Prelude.{IsTrue, IfSome, IfNone}
-use Rattle.rz_events.specs.declared.nodes.Phase.TheVariants.{Up}
-use Rattle.rz_events.specs.declared.events.Word.TheVariants.{Node}
+use Rattle.std.proofs.Common.{◌≡◌, ◌∙◌, ◌++◌, refl, sym, ap, subst, List, None}
 use Rattle.rz_events.specs.declared.events.Event.{Event}
-use Rattle.rz_core.specs.History.{of_word}
-use Rattle.rz_core.specs.NodeWord.{phase}
 use Rattle.rz_export_model.specs.Export.{published_after}
 use Rattle.rz_contents.specs.Model.{export_at}
-use Rattle.rz_chronicle.specs.Kinds.{keeps_legal, volume_in}
+use Rattle.rz_chronicle.specs.Kinds.{volume_in}
 use Rattle.rz_chronicle.specs.Rules.{PassView}
 use Rattle.rz_store_turns.specs.Sole.{IsSole, SoleView}
 use Rattle.rz_store_turns.proofs.Soles.{same-pass}
