@@ -1,6 +1,6 @@
 -- A put that was done has published its block.
-use Rattle.std.proofs.Common.{ℕ, Bool, true, false, ◌≡◌, List, [], ◌∷◌, ◌++◌, Option, Some, None, cond, nat_lt, refl, sym, ◌∙◌, ap, subst, append_assoc}
-use Rattle.std.specs.Prelude.{IsTrue, slice_index, Result, Ok, Err, OnOk, OnErr}
+use Rattle.std.proofs.Common.{ℕ, Bool, true, false, ◌≡◌, List, ◌∷◌, ◌++◌, None, cond, nat_lt, refl, sym, ◌∙◌, ap, subst, append_assoc}
+use Rattle.std.specs.Prelude.{IsTrue, slice_index, Result, Ok, Err, OnOk}
 use Rattle.mj_angles.specs.declared.layout.Layout.{Layout}
 use Rattle.mj_angles.specs.Layout.{forward_of}
 use Rattle.rz_events.specs.Volume.{Volume}
@@ -9,7 +9,6 @@ use Rattle.rz_events.specs.declared.keys.Actor.{Actor}
 use Rattle.rz_events.specs.declared.ends.WriteEnd.{WriteEnd}
 use Rattle.rz_events.specs.declared.ends.WriteEnd.TheVariants as write
 use Rattle.rz_events.specs.declared.events.Answer.{Answer}
-use Rattle.rz_events.specs.declared.events.Answer.TheVariants as answer
 use Rattle.rz_events.specs.declared.events.Event.{Event}
 use Rattle.rz_events.specs.declared.events.Event.TheVariants as e
 use Rattle.rz_events.specs.declared.machines.WriterAsk.TheVariants as asks

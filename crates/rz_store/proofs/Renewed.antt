@@ -1,11 +1,9 @@
 -- A block that is written anew with the text that it contains.
-use Rattle.std.proofs.Common.{ℕ, Bool, true, false, ◌≡◌, ◌⊎◌, inl, inr, ◌+◌, ◌*◌, ◌≤◌, List, [], ◌∷◌, ◌++◌, length, Option, Some, None, cond, refl, sym, ◌∙◌, ap, subst, arith, append_assoc}
-use Rattle.std.specs.Prelude.{IsTrue, Result, Ok, Err, OnOk, OnErr}
+use Rattle.std.proofs.Common.{ℕ, Bool, true, false, ◌≡◌, inl, ◌+◌, ◌*◌, ◌≤◌, List, [], ◌∷◌, ◌++◌, length, Option, Some, cond, refl, sym, ◌∙◌, ap, subst, append_assoc}
+use Rattle.std.specs.Prelude.{Result, Ok, Err, OnOk, OnErr}
 use Rattle.std.specs.FinMap as maps
-use Rattle.std.specs.Ordering.{nat_cmp, eq_by_cmp}
 use Rattle.std.proofs.lemmas.Option.{same_Some}
 use Rattle.mj_angles.specs.Layout.{block_bytes_of}
-use Rattle.rz_events.specs.Volume.{Volume}
 use Rattle.rz_events.specs.declared.keys.Key.{Key}
 use Rattle.rz_events.specs.declared.ends.WriteEnd.TheVariants as write
 use Rattle.rz_events.specs.declared.events.Event.{Event}
@@ -16,11 +14,10 @@ use Rattle.rz_core.specs.Legal.{IsLegalInRuns}
 use Rattle.rz_core.proofs.Stamps.{same_key-true}
 use Rattle.rz_chronicle.specs.Keys.{IsLater}
 use Rattle.rz_contents.specs.Contents.{IsUnpublished}
-use Rattle.rz_contents.specs.Model.{Model, IsSame}
 use Rattle.rz_contents.specs.Putting.{model_put}
 use Rattle.rz_contents.specs.Files.{IsFileAt, key_in}
 use Rattle.rz_contents.specs.Sizes.{AreCovered}
-use Rattle.rz_store.specs.Store.{StoreView, model_in, LooksSame, HasPut, HasGot, WasPublished, HasPublished, HasRenewed}
+use Rattle.rz_store.specs.Store.{StoreView, model_in, LooksSame, HasPut, HasGot, HasPublished, HasRenewed}
 use Rattle.rz_store.proofs.Looks.{same-then}
 use Rattle.rz_store.proofs.Grown.{grown-still, fid-there}
 use Rattle.rz_store.proofs.Opens.{file-there}

@@ -1,5 +1,5 @@
 -- Nodes that are started, and nodes that get a new disk.
-use Rattle.std.proofs.Common.{ℕ, ◌≡◌, ◌≢◌, ◌==◌, ◌-◌, ◌^◌, ◌+◌, Bool, true, false, cond, List, ◌∷◌, ◌++◌, Option, Some, None, refl, sym, ◌∙◌, ap, subst, eq-eqb, append_assoc}
+use Rattle.std.proofs.Common.{ℕ, ◌≡◌, ◌==◌, ◌-◌, ◌^◌, ◌+◌, Bool, true, false, cond, List, ◌∷◌, ◌++◌, Option, Some, None, refl, sym, ◌∙◌, ap, eq-eqb, append_assoc}
 use Rattle.std.specs.Prelude.{Result, Ok, Err, OnOk, IfOk, IfErr, IfNone, IsTrue}
 use Rattle.std.proofs.lemmas.Bool.{eqb-true}
 use Rattle.rz_events.specs.declared.ends.RebuildEnd.{RebuildEnd}
@@ -30,7 +30,7 @@ use Rattle.rz_store.specs.declared.faults.ReplaceFault.{ReplaceFault}
 use Rattle.rz_store.specs.declared.faults.ReplaceFault.TheVariants as unreplaced
 use Rattle.rz_store.specs.declared.nodes.Rebuilt.{Rebuilt}
 use Rattle.rz_store.specs.Store.{StoreView, IfLegal}
-use Rattle.rz_store.specs.Nodes.{phase_in, HasStarted, start_told, IsStartCause, rebuild_told, swap_told, HasRebuilt, HasRefilled, IsRebuildCause, after_loss, IsReplaceCause, IsUnreplaced}
+use Rattle.rz_store.specs.Nodes.{HasStarted, start_told, IsStartCause, rebuild_told, swap_told, HasRebuilt, HasRefilled, IsRebuildCause, after_loss, IsReplaceCause, IsUnreplaced}
 use Rattle.rz_store.proofs.Mended.{left-some}
 use Rattle.rz_store.proofs.Wholes.{view}
 

@@ -1,4 +1,4 @@
-use Rattle.std.proofs.Common.{ℕ, ◌≡◌, Option, ◌∙◌, ap, subst}
+use Rattle.std.proofs.Common.{ℕ, ◌≡◌, ◌∙◌, ap, subst}
 use Rattle.std.specs.Prelude.{IfOk, IfSome, IfNone}
 use Rattle.rz_events.specs.declared.nodes.Phase.TheVariants.{Up}
 use Rattle.rz_core.specs.NodeRows.{IsNodeOf}

@@ -1,4 +1,4 @@
-use Rattle.std.proofs.Common.{ℕ, ◌≡◌, subst}
+use Rattle.std.proofs.Common.{ℕ, subst}
 use Rattle.std.specs.Prelude.{IfOk, IfErr}
 use Rattle.rz_chronicle.specs.Keys.{IsLater}
 use Rattle.rz_store.specs.Store.{StoreView, IfLegal}
