@@ -2,8 +2,8 @@
 use Rattle.std.specs.Prelude.{ℕ, ◌≡◌, ◌≤◌, ◌<◌, ◌+◌, ◌×◌, ◌⊎◌, Option, None, Some}
 use Rattle.mj_angles.specs.declared.layout.Layout.{Layout}
 use Rattle.rz_config.specs.Sizes.{disk_bytes_of}
-use Rattle.rz_store_words.specs.declared.new_store.Room.{Room}
-use Rattle.rz_store_words.specs.declared.new_store.Room.TheVariants as room
+use Rattle.rz_store_words.specs.declared.wanted.Room.{Room}
+use Rattle.rz_store_words.specs.declared.wanted.Room.TheVariants as room
 
 -- A disk that may have so many bytes has room for as many blocks as it can, but 1048576 at most, and there is none where not even one
 -- block has room.

@@ -6,7 +6,7 @@
 //! contracts say which number a text such as `500M` is, which layout the numbers of a new store make, which status
 //! the program ends with, and each text by which a fault of the store is told.
 //!
-//! In reading order: the command line in `command`, `numbers`, `tasks`; a new store in `new_store`; what is told in
+//! In reading order: the command line in `command`, `numbers`, `tasks`; a new store in `wanted`; what is told in
 //! `status`, `causes`, `counts`, `faults`, `attributes`.
 #![tactic(auto)]
 
@@ -15,17 +15,17 @@ mod causes;
 mod command;
 mod counts;
 mod faults;
-mod new_store;
 mod numbers;
 mod status;
 mod tasks;
+mod wanted;
 
 pub use attributes::{long_attributes, short_attributes};
 pub use causes::{journal_words, open_words, tree_words};
 pub use command::parse;
 pub use counts::{seen_words, why_words};
 pub use faults::{store_words, volume_words};
-pub use new_store::{NewStore, Room, cells_of, layout_of, volume_text};
 pub use numbers::bytes_of;
 pub use status::Status;
 pub use tasks::{Task, new_store, task_of};
+pub use wanted::{NewStore, Room, cells_of, layout_of, volume_text};

@@ -1,6 +1,6 @@
 //! What a new store is to be.
 
-ghost use Rattle.std.specs.Prelude.{◌≡◌, ◌×◌, ◌↔◌, Some};
+ghost use Rattle.std.specs.Prelude.{◌≡◌, ◌↔◌, Some};
 ghost use Rattle.mj_angles.specs.Layout.{block_bytes_of, number_of};
 ghost use Rattle.rz_store_words.specs.NewStores.{IsRoom};
 
