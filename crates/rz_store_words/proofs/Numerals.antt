@@ -1,8 +1,8 @@
 -- Decimal digits are ASCII, so they are text.
 use Rattle.std.proofs.Common.{ℕ, zero, suc, ◌≡◌, ◌<◌, ◌==◌, Bool, true, false, cond, List, [], ◌∷◌, drop, slice_index, refl, arith, eq-eqb}
-use Rattle.core.specs.Char.{digit_value}
-use Rattle.core.specs.Str.{IsAscii, IsUtf8}
-use Rattle.core.specs.Str.Parse.{AllDigits, IsNumeral, without_leading_plus}
+use Rattle.std.specs.Char.{digit_value}
+use Rattle.std.specs.Str.{IsAscii, IsUtf8}
+use Rattle.std.specs.Str.Parse.{AllDigits, IsNumeral, without_leading_plus}
 use Rattle.std.proofs.lemmas.Str.{IsUtf8-from_ascii}
 
 digit-ascii : (c : ℕ) → digit_value c < 10 → c < 128

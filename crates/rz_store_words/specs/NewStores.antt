@@ -1,5 +1,5 @@
 -- How large the disks of a new store are.
-use Rattle.std.specs.Prelude.{ℕ, ◌≡◌, ◌≤◌, ◌<◌, ◌+◌, ◌×◌, ◌⊎◌, Option, None, Some}
+use Rattle.std.specs.Prelude.{ℕ, ◌≡◌, ◌≤◌, ◌<◌, ◌+◌, ◌⊎◌, Option, None, Some}
 use Rattle.mj_angles.specs.declared.layout.Layout.{Layout}
 use Rattle.rz_config.specs.Sizes.{disk_bytes_of}
 use Rattle.rz_store_words.specs.declared.wanted.Room.{Room}

@@ -1,14 +1,15 @@
 -- Numbers of the command line.
-use Rattle.std.specs.Prelude.{ℕ, ◌≡◌, ◌*◌, ◌-◌, ◌^◌, ◌<◌, ◌≤◌, List, length, take, slice_get, Option, None, Some}
-use Rattle.core.specs.Str.Parse.{IsNumeral, digits_value, without_leading_plus}
+use Rattle.std.specs.Prelude.{ℕ, ◌≡◌, ◌*◌, ◌-◌, ◌^◌, ◌<◌, ◌≤◌, List, length, take, slice_get, ◌==◌, if◌then◌else◌, Option, None, Some}
+use Rattle.std.specs.Str.Parse.{IsNumeral, digits_value, without_leading_plus}
 
 -- how many bytes a letter stands for: K, M, G and T
 abbrev pub unit_of : ℕ → Option ℕ
-unit_of 75 = Some 1024
-unit_of 77 = Some 1048576
-unit_of 71 = Some 1073741824
-unit_of 84 = Some 1099511627776
-unit_of _ = None
+unit_of letter =
+    if letter == 75 then Some 1024
+    else if letter == 77 then Some 1048576
+    else if letter == 71 then Some 1073741824
+    else if letter == 84 then Some 1099511627776
+    else None
 
 abbrev pub unit_at : Option ℕ → Option ℕ
 unit_at None = None

@@ -1,6 +1,6 @@
 //! How many positions of a block took or gave their record.
 
-ghost use Rattle.std.specs.Prelude.{◌≡◌, IfOk, count_by};
+ghost use Rattle.std.specs.Prelude.{◌≡◌, IfOk, string_bytes};
 ghost use Rattle.rz_store_words.specs.Counts.{is_away, is_failed, is_full, is_kept, seen_words, was_away, was_failed, was_held, was_none, why_words};
 
 use rz_events::{Seen, Why};
