@@ -5,17 +5,14 @@ use Rattle.std.specs.FinMap as map
 use Rattle.mj_angles.specs.declared.layout.Layout.{Layout}
 use Rattle.rz_events.specs.declared.keys.Actor.{Actor}
 use Rattle.rz_events.specs.declared.keys.Actor.TheVariants.{Client}
-use Rattle.rz_events.specs.declared.export.Call.{Call}
 use Rattle.rz_events.specs.declared.nodes.NodeAsk.{NodeAsk}
 use Rattle.rz_locks.specs.declared.conflict.LockKind.{LockKind}
 use Rattle.rz_locks.specs.declared.conflict.Range.{Range}
 use Rattle.rz_locks.specs.Held.{Held}
 use Rattle.rz_operation.specs.Machine.{Machine, work_in}
-use Rattle.rz_operation_model.specs.Ask.{Ask, AskExport, AskNode, AskLock, Say, Rest, Saying, ask_of}
+use Rattle.rz_operation_model.specs.Ask.{Rest, ask_of}
 use Rattle.rz_metadata.specs.Stands.{export_in}
 use Rattle.rz_play.specs.Turns.{IsLost, IsThrough, lost_after}
-use Rattle.rz_driver_actors.specs.declared.turn_acts.AskKind.{AskKind}
-use Rattle.rz_driver_actors.specs.declared.turn_acts.AskKind.TheVariants as kind
 use Rattle.rz_driver_actors.specs.declared.actor_agenda.Agenda.{Agenda}
 use Rattle.rz_driver_actors.specs.declared.shared.Shared.{Shared}
 use Rattle.rz_nodes.specs.declared.formatting.Server.{Server}
@@ -26,14 +23,6 @@ use Rattle.rz_driver_nodes.specs.Servers.{IsServerAt, IsCalled}
 
 abbrev pub HasLayouts : {D : Type 0} → Layout → List (Server D) → Type 0
 HasLayouts {D = D} layout servers = AllByRecursion (λ (s : Server D). s.node.geometry.layout ≡ layout) servers
-
--- what is asked is of this kind
-abbrev pub IsAskKind : Ask → AskKind → Type 0
-IsAskKind ask kind.Rest = ask ≡ Rest
-IsAskKind ask kind.Export = (c : Call) × (ask ≡ AskExport c)
-IsAskKind ask kind.Lock = (path : List ℕ) × (exclusive : Bool) × (from : ℕ) × (count : ℕ) × (ask ≡ AskLock path exclusive from count)
-IsAskKind ask (kind.Node n question) = ask ≡ AskNode n question
-IsAskKind ask kind.Say = (said : Saying) × (ask ≡ Say said)
 
 -- A message to the node at a place.
 

@@ -4,7 +4,6 @@ ghost use Rattle.std.specs.FinMap as map;
 ghost use Rattle.std.specs.Vec.{vec_len};
 ghost use Rattle.mj_angles.specs.Layout.{max_bins_of};
 ghost use Rattle.rz_events.specs.declared.keys.Actor.TheVariants as actor;
-ghost use Rattle.rz_operation_model.specs.Ask.{ask_of};
 ghost use Rattle.rz_play.specs.Turns as model;
 ghost use Rattle.rz_driver_asks.specs.Locking.{lock_of};
 ghost use Rattle.rz_driver_nodes.specs.Nodes.{IsAsked};
@@ -13,9 +12,10 @@ ghost use Rattle.rz_player.specs.Messages.{IsAskSent, IsSent};
 ghost use Rattle.rz_driver_nodes.specs.Meters.{AreMetered, AreCounted, CarriesCounts};
 ghost use Rattle.rz_metadata.specs.Stands.{IsJournalOpen};
 ghost use Rattle.rz_driver_asks.specs.Asked.{LeavesAsked};
+ghost use Rattle.rz_operation_model.specs.Ask.{ask_of};
 ghost use Rattle.rz_driver_actors.specs.Stores.{TurnsExport, IsSameStore};
 ghost use Rattle.rz_driver_actors.specs.Hands.{StaysCoherent, LeavesUnchanged};
-ghost use Rattle.rz_driver_actors.specs.Acts.{IsAskKind, IsActorMessage, IsLockReleased, IsSameActor, IsAct, HasLayouts};
+ghost use Rattle.rz_driver_actors.specs.Acts.{IsActorMessage, IsLockReleased, IsSameActor, IsAct, HasLayouts};
 
 use crate::actor_agenda::Agenda;
 use crate::shared::Shared;
@@ -26,31 +26,9 @@ use rz_driver_nodes::{find, through, without_reply, without_request};
 use rz_events::{Actor, NodeAsk};
 use rz_link::{Link, Sent, fate};
 use rz_locks::{LockKind, Locks, Range};
-use rz_operation::{Ask, Machine, goes_by_link};
+use rz_operation::{AskKind, Machine, goes_by_link};
 use rz_player::Halted;
 use std::alloc::Global;
-
-/// What kind of thing a machine asks.
-#[derive(Clone, Copy, Drop)]
-pub(crate) enum AskKind {
-    Rest,
-    Export,
-    Lock,
-    Node { node: u16, ask: NodeAsk },
-    Say,
-}
-
-fn ask_kind(machine: &Machine) -> AskKind
-    ensures { IsAskKind (ask_of machine.now.layout machine.now.work) result }
-{
-    match machine.next() {
-        Ask::Rest => AskKind::Rest,
-        Ask::Export(_) => AskKind::Export,
-        Ask::Lock { .. } => AskKind::Lock,
-        Ask::Node { node, ask } => AskKind::Node { node, ask },
-        Ask::Say(_) => AskKind::Say,
-    }
-}
 
 /// The actor does what its operation asks next.
 pub fn act<D: Disk, J: Disk, L: Link>(
@@ -88,7 +66,7 @@ pub fn act<D: Disk, J: Disk, L: Link>(
     let Some(machine) = &mut agenda.machine else {
         return Ok(());
     };
-    match ask_kind(machine) {
+    match machine.ask_kind() {
         AskKind::Rest => Ok(()),
         AskKind::Export => ask_export(alloc, by, machine, &mut shared.export, &mut shared.log),
         AskKind::Lock => open(

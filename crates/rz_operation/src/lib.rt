@@ -6,13 +6,15 @@
 //! Memory is taken by `start` and `start_par` alone, which differ in how many threads make the bins of a
 //! long write. What each stage asks and how it goes on is `rz_operation_states`.
 //!
-//! In reading order: `machine`, `begins`, `replies`, `takes`.
+//! In reading order: `machine`, `asking`, `begins`, `replies`, `takes`.
 #![tactic(auto)]
 
+mod asking;
 mod begins;
 mod machine;
 mod replies;
 mod takes;
 
+pub use asking::AskKind;
 pub use machine::Machine;
 pub use rz_operation_states::{Ask, Saying, goes_by_link, is_placed};

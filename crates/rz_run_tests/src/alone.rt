@@ -2,8 +2,8 @@
 ghost use Rattle.std.specs.Prelude.{◌≡◌, length};
 
 use crate::clock::{Clock, ClockDisk, ClockLink};
-use crate::stage::{play, push};
-use rz_disk::PlainDisk;
+use crate::stage::{play, play_over, push};
+use rz_disk::{PlainDisk, RotDisk};
 use rz_link::{MemLink, PlainLink, Sent};
 use std::process::Abort;
 use std::sync::Wait;
@@ -103,6 +103,40 @@ end 16
 #[test]
 fn a_drop_is_lost(rt: HostRuntime) -> Result<(), Fail> {
     assert!(rt; is_told(&rt, UNLINKED, 3, Sent::ReplyLost, LOST_DROP));
+    Ok(())
+}
+
+/// Four disks, of which the first reads a byte of its first record wrong.
+fn rotten(rt: &(impl Abort + AllocGlobal)) -> Vec<RotDisk<PlainDisk>> {
+    let mut disks = Vec::new(rt.alloc());
+    for at in [2368, u64::MAX, u64::MAX, u64::MAX] {
+        push(
+            rt,
+            &mut disks,
+            RotDisk::new(PlainDisk::new(rt.alloc()), at, 1),
+        );
+    }
+    disks
+}
+
+const REWRITTEN: &str =
+    "op c1 create /f\nop c1 put /f 0 t:hello\nop c1 get /f 0\nop c1 put /f 0 t:again\n";
+
+/// The record of node 1 fits no block with that of node 2: the read says so, and the client goes on.
+const ALTERED: &str = "c1 1 created 00000000-0000-0000-0000-000000000001
+c1 2 acked 1 1110
+c1 3 inconsistent
+c1 4 acked 2 1110
+end 21
+";
+
+#[test]
+fn an_altered_bin_is_noticed(rt: HostRuntime) -> Result<(), Fail> {
+    let links = links(&rt, u64::MAX, Sent::Through);
+    let text = play_over(&rt, LINE, REWRITTEN, rotten(&rt), links, false);
+    let is_told = text.as_str() == ALTERED;
+    drop(text);
+    assert!(rt; is_told);
     Ok(())
 }
 

@@ -32,7 +32,8 @@ fn words_of(rt: &(impl Abort + AllocGlobal), line: &str) -> Vec<String> {
     words
 }
 
-/// Plays a script, and gives what is printed of it. Another status than 0 stops the test.
+/// Plays a script over disks that tell what they hold, and gives what is printed of it. Another status than 0
+/// stops the test.
 pub fn play<R: Threads + Wait + Abort + AllocGlobal + Sync, D: Disk + Send, L: Link + Send>(
     rt: &R,
     line: &str,
@@ -42,6 +43,21 @@ pub fn play<R: Threads + Wait + Abort + AllocGlobal + Sync, D: Disk + Send, L: L
 ) -> String
     requires links { length links.items ≡ 80 }
     requires tells { IsTrue D.tells }
+{
+    play_over(rt, line, script, disks, links, true)
+}
+
+/// The same over any disks.
+pub fn play_over<R: Threads + Wait + Abort + AllocGlobal + Sync, D: Disk + Send, L: Link + Send>(
+    rt: &R,
+    line: &str,
+    script: &str,
+    disks: Vec<D>,
+    links: Vec<L>,
+    honest: bool,
+) -> String
+    requires links { length links.items ≡ 80 }
+    requires tells { IsTrue honest → IsTrue D.tells }
 {
     let words = words_of(rt, line);
     let bytes = Vec::from_slice(rt.alloc(), script.as_bytes()).expect(rt, "memory");
@@ -55,7 +71,7 @@ pub fn play<R: Threads + Wait + Abort + AllocGlobal + Sync, D: Disk + Send, L: L
         &mut output,
         disks,
         links,
-        true,
+        honest,
     );
     drop(input);
     drop(words);

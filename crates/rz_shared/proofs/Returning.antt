@@ -7,9 +7,11 @@ use Rattle.std.proofs.lemmas.List.{append-nil, map-append, reverse-append}
 use Rattle.rz_disk.specs.Meter.{Meter, faults}
 use Rattle.rz_disk.specs.UnderFuse.{UnderFuse}
 use Rattle.rz_events.specs.declared.events.Event.{Event}
+use Rattle.rz_events.specs.declared.nodes.Phase.TheVariants.{Up}
 use Rattle.rz_events.specs.declared.events.Word.TheVariants.{Node}
 use Rattle.rz_core.specs.History.{of_word}
 use Rattle.rz_core.specs.NodeRows.{IsNodeOf}
+use Rattle.rz_core.specs.NodeWord.{phase}
 use Rattle.rz_chronicle.specs.Kinds.{keeps_legal, volume_in}
 use Rattle.rz_chronicle.specs.Rules.{WordTokenView}
 use Rattle.rz_shared_locked.specs.Counts.{AreCountedSince}
@@ -29,8 +31,8 @@ pub returned : {D : Type 0} (meter : D → Meter) (image : D → List ℕ → Ty
     → word_token ≡ record { word = Node node; log = log } → disk ≡ option_map (λ (f : UnderFuse D). f.disk) kept → IsNodeOf (volume_in kind) node
     → (IsTrue (keeps_legal kind) → IfSome kept (λ (f : UnderFuse D). AreImagesFrom (volume_in kind) earlier log node (image f.disk)))
     → (IsTrue fixed → IfSome kept (λ (f : UnderFuse D). AreCountedSince (first node) (faults (meter f.disk)) (of_word (Node node) log))) → (IsTrue fixed → IsSome kept)
-    → IsReturnedIf meter image fixed kind earlier first disk word_token
-returned {D = D} meter image fixed kind earlier first node log kept disk word_token is same of_volume images counted here =
+    → (IsTrue (keeps_legal kind) → phase (of_word (Node node) (log ++ earlier)) ≡ Up → IsSome kept) → IsReturnedIf meter image fixed kind earlier first disk word_token
+returned {D = D} meter image fixed kind earlier first node log kept disk word_token is same of_volume images counted here up =
     let logs : word_token.log ≡ log = ap (λ (p : WordTokenView). p.log) is in
     record {
       node = node;
@@ -45,6 +47,9 @@ returned {D = D} meter image fixed kind earlier first node log kept disk word_to
           (subst (λ (o : Option D). IfSome o (λ (d : D). AreCountedSince (first node) (faults (meter d)) (of_word (Node node) log))) (sym same)
           (if-mapped (λ (f : UnderFuse D). f.disk) (λ (d : D). AreCountedSince (first node) (faults (meter d)) (of_word (Node node) log)) kept (counted all)));
       here = λ all. subst (λ (o : Option D). IsSome o) (sym same) (some-mapped (λ (f : UnderFuse D). f.disk) kept (here all));
+      up = λ keeps is_up.
+          subst (λ (o : Option D). IsSome o) (sym same)
+          (some-mapped (λ (f : UnderFuse D). f.disk) kept (up keeps (subst (λ (l : List Event). phase (of_word (Node node) (l ++ earlier)) ≡ Up) logs is_up)));
     }
 
 pub one-longer : {A : Type 0} (xs ys : List A) (x : A) → ys ≡ xs ++ x ∷ [] → length ys ≡ length xs + 1

@@ -1,13 +1,14 @@
 //! The end of a cluster: the disks and the tokens go back.
-ghost use Rattle.std.specs.Prelude.{◌≡◌, ◌≤◌, ◌++◌, IsTrue, IsSome, List, Some, length, map, nat_eq};
+ghost use Rattle.std.specs.Prelude.{◌≡◌, ◌≤◌, ◌++◌, IsTrue, IsSome, is_some, List, Some, length, map, nat_eq};
 ghost use Rattle.std.specs.List.{AllZip, IsDistinct, AllByRecursion};
 ghost use Rattle.std.specs.Vec.{vec_len, vec_capacity};
 ghost use Rattle.rz_events.specs.declared.events.Event.{Event as AnEvent};
 ghost use Rattle.rz_events.specs.declared.events.Word.TheVariants as w;
 ghost use Rattle.rz_events.specs.Volume.{nodes_of};
-ghost use Rattle.rz_metadata.specs.Stands.{CountsFaults};
+ghost use Rattle.rz_metadata.specs.Stands.{export_in, is_journaled, CountsFaults};
 ghost use Rattle.rz_chronicle.specs.Keys.{sids_of, word_key};
-ghost use Rattle.rz_shared_locked.specs.LockedExports.{AreMetadataFrom, faults_of};
+ghost use Rattle.rz_chronicle.specs.Kinds.{keeps_legal, volume_in};
+ghost use Rattle.rz_shared_locked.specs.LockedExports.{AreMetadataFrom, AreTextsFrom, faults_of};
 ghost use Rattle.rz_shared_locked.specs.LockedNodes.{LockedNodeView};
 ghost use Rattle.rz_shared.specs.Returned.{IsReturned, IsReturnedIf};
 
@@ -91,6 +92,9 @@ impl<D: Disk, J: Metering> Cluster<D, J> {
         ensures count { length result.0.disks.items ≡ length (nodes_of self.clusters) }
         ensures export { result.0.desk.export.word ≡ w.Export }
         ensures metadata { AreMetadataFrom D.tells D.meter D.image (faults_of J.journal) J.kind J.earlier result.0.desk.export.log result.0.metadata }
+        ensures volume { (export_in result.0.metadata).volume ≡ volume_in J.kind }
+        ensures journal { is_journaled result.0.metadata ≡ is_some J.journal }
+        ensures texts { IsTrue (keeps_legal J.kind) → AreTextsFrom J.earlier result.0.desk.export.log }
         ensures counted { CountsFaults D.meter (faults_of J.journal) result.0.metadata }
         ensures returned { AllZip (IsReturnedIf D.meter D.image J.fixed J.kind J.earlier J.first) result.0.disks.items result.0.desk.nodes.items }
         ensures order { IsDistinct nat_eq (map (λ p. word_key p.word) result.0.desk.nodes.items) → map (λ p. p.word) result.0.desk.nodes.items ≡ map w.Node (sids_of self) }
@@ -116,12 +120,16 @@ impl<D: Disk, J: Metering> Cluster<D, J> {
         (closed, room.home)
     }
 
-    /// The disks, each where it is here, beside the token of its node's word, and the token of the export's
-    /// with the metadata. They stand in the order of the description, since no two tokens are of one word.
+    /// The disks, each where it is here, as that of a node that is up is, beside the token of its node's word,
+    /// and the token of the export's with the metadata, in which the journal is, if there is one. They stand in
+    /// the order of the description, since no two tokens are of one word.
     pub fn close_after(self) -> Closed<D, J>
         ensures count { length result.disks.items ≡ length (nodes_of self.clusters) }
         ensures export { result.desk.export.word ≡ w.Export }
         ensures metadata { AreMetadataFrom D.tells D.meter D.image (faults_of J.journal) J.kind J.earlier result.desk.export.log result.metadata }
+        ensures volume { (export_in result.metadata).volume ≡ volume_in J.kind }
+        ensures journal { is_journaled result.metadata ≡ is_some J.journal }
+        ensures texts { IsTrue (keeps_legal J.kind) → AreTextsFrom J.earlier result.desk.export.log }
         ensures counted { CountsFaults D.meter (faults_of J.journal) result.metadata }
         ensures returned { AllZip (IsReturnedIf D.meter D.image J.fixed J.kind J.earlier J.first) result.disks.items result.desk.nodes.items }
         ensures order { IsDistinct nat_eq (map (λ p. word_key p.word) result.desk.nodes.items) → map (λ p. p.word) result.desk.nodes.items ≡ map w.Node (sids_of self) }

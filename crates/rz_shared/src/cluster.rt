@@ -82,7 +82,7 @@ fn place_of(nodes: &[NodeSpec], number: u16) -> usize
 
 impl<D: Disk, J: Metering> Cluster<D, J> {
     // The lock at the place of a node.
-    fn locked_node(&self, node: u16) -> &Mutex<LockedNode<Fused<D>, J>>
+    pub(crate) fn locked_node(&self, node: u16) -> &Mutex<LockedNode<Fused<D>, J>>
         requires { IsNodeOf (volume_in J.kind) node }
     {
         &self.locked_nodes[place_of(self.nodes.as_slice(), node)]

@@ -14,7 +14,7 @@
 //! one that was asked waits for ever. At the end each disk comes back beside the token of its own node, in
 //! the order of the description.
 //!
-//! In reading order: `room`, `seating`, `cluster`, `making`, `resuming`, `arranging`, `closing`.
+//! In reading order: `room`, `seating`, `cluster`, `telling`, `making`, `resuming`, `arranging`, `closing`.
 #![tactic(auto)]
 
 mod arranging;
@@ -24,6 +24,7 @@ mod making;
 mod resuming;
 mod room;
 mod seating;
+mod telling;
 
 pub use closing::Closed;
 pub use cluster::Cluster;

@@ -13,3 +13,4 @@ mod Texts
 mod Journaled
 mod Occupants
 mod Swaps
+mod Told

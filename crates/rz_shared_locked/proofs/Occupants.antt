@@ -3,7 +3,7 @@ use Rattle.std.proofs.Common.{◌≡◌, ◌≢◌, ℕ, Bool, true, false, IsTr
 use Rattle.std.specs.FinMap as maps
 use Rattle.rz_disk.specs.Meter.{Meter, armed}
 use Rattle.rz_events.specs.Volume.{Volume}
-use Rattle.rz_events.specs.declared.nodes.Phase.TheVariants.{Down}
+use Rattle.rz_events.specs.declared.nodes.Phase.TheVariants.{Down, Up}
 use Rattle.rz_events.specs.declared.events.Word.TheVariants.{Node}
 use Rattle.rz_events.specs.declared.events.Event.{Event}
 use Rattle.rz_events.specs.declared.events.Event.TheVariants as e
@@ -11,6 +11,7 @@ use Rattle.rz_cells_slots.specs.declared.geometry.Geometry.{Geometry}
 use Rattle.rz_node_model.specs.States.{NodeState}
 use Rattle.rz_node.specs.View.{NodeView, lost}
 use Rattle.rz_core.specs.History.{Facts, facts, of_word}
+use Rattle.rz_core.specs.NodeWord.{phase}
 use Rattle.rz_core.specs.Legal.{IsLegalAfter}
 use Rattle.rz_core.specs.Tied.{HasState, IsNode}
 use Rattle.rz_node_laws.specs.Images.{AreImages, IsImaged, geometry_in}
@@ -87,6 +88,12 @@ counts-left meter law first w (Away a) counts = absurd counts
 pub some-left : {D : Type 0} (meter : D → Meter) (first : ℕ) (w : List Event) (who : Occupant D) → CountsHere meter first w who → IsSome (disk_of who)
 some-left meter first w (Here node) counts = refl
 some-left meter first w (Away a) counts = absurd counts
+
+-- a node that is up has its disk
+pub up-left : {D : Type 0} (tells : Bool) (image : D → List ℕ → Type 0) (kind : List ℕ) (h : List Event) (n : ℕ) (who : Occupant D) → IsBehindLock tells image kind h n who → IsTrue (keeps_legal kind) → phase (of_word (Node n) h) ≡ Up
+    → IsSome (disk_of who)
+up-left tells image kind h n (Here node) it keeps up = refl
+up-left tells image kind h n (Away a) it keeps up = absurd (it.is_in.low ((it.tied keeps).phase_is ∙ up))
 
 -- a lost node holds nothing, whatever its disk has
 pub lost-imaged : (v : Volume) (f : Facts) (n : ℕ) (g : Geometry) (fence losses : ℕ) (image : List ℕ → Type 0) → IsImaged v f n (lost fence losses) g image

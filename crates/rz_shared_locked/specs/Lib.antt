@@ -1,5 +1,6 @@
 pub mod Adding
 pub mod LockedNodes
+pub mod Told
 pub mod Occupants
 pub mod Swaps
 pub mod LockedExports

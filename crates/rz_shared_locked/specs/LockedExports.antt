@@ -84,6 +84,10 @@ event_given by question given = unwrap_or (export_event by question given) mark
 abbrev pub AreTextsOfBytes : List Event → Type 0
 AreTextsOfBytes h = (s : ℕ) (b : Begun) → wrote h s ≡ Some b → All (λ x. x < 256) b.text
 
+-- in each log from this one on that has no further event of the export
+abbrev pub AreTextsFrom : (earlier h : List Event) → Type 0
+AreTextsFrom earlier h = (new : List Event) → IsLater h new → events_at (word_key Export) new ≡ events_at (word_key Export) h → AreTextsOfBytes (new ++ earlier)
+
 -- so does one that begins by this call
 abbrev pub IsCallOfBytes : Call → Type 0
 IsCallOfBytes (call.Begin key text) = All (λ x. x < 256) text

@@ -11,7 +11,7 @@
 //! memory alone, or behind a journal, which keeps each call that changes it before that is replied to.
 //!
 //! In reading order: `counting`, `serving`, `away`, `occupant`, `adding`, `waiting`, `locked_node`,
-//! `swapping`, `locked_export`; `laws` has what lasts while others act.
+//! `telling`, `swapping`, `locked_export`; `laws` has what lasts while others act.
 #![tactic(auto)]
 
 mod adding;
@@ -23,6 +23,7 @@ mod locked_node;
 mod occupant;
 mod serving;
 mod swapping;
+mod telling;
 mod waiting;
 
 pub use away::Away;

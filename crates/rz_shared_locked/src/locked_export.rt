@@ -1,5 +1,5 @@
 //! The export under its lock.
-ghost use Rattle.std.specs.Prelude.{◌≡◌, ◌+◌, ◌<◌, ◌^◌, [], ◌∷◌, ◌++◌, IsTrue, IfOk, OnErr, is_some};
+ghost use Rattle.std.specs.Prelude.{◌≡◌, ◌+◌, ◌<◌, ◌^◌, [], ◌∷◌, ◌++◌, IsTrue, IfOk, OnErr, None, is_some};
 ghost use Rattle.std.specs.List.{All};
 ghost use Rattle.rz_events.specs.declared.keys.Actor.{Actor as AnActor};
 ghost use Rattle.rz_events.specs.declared.export.Call.{Call as ACall};
@@ -7,9 +7,10 @@ ghost use Rattle.rz_events.specs.declared.events.Word.TheVariants as w;
 ghost use Rattle.rz_events.specs.Borrowed.{call_of};
 ghost use Rattle.rz_events.specs.Events.{word_of, by_of};
 ghost use Rattle.rz_export.specs.Calls.{IsAnswered};
-ghost use Rattle.rz_export_model.specs.Export.{is_proper};
+ghost use Rattle.rz_export_model.specs.Export.{is_proper, published_after};
 ghost use Rattle.rz_export_model.specs.ExportEvents.{export_event};
 ghost use Rattle.rz_core.specs.History.{facts, of_actor, of_word};
+ghost use Rattle.rz_core.specs.ExportWord.{export_of};
 ghost use Rattle.rz_core.specs.Tied.{IsExport, IsProperCall};
 ghost use Rattle.rz_metadata.specs.Stands.{export_in, is_journaled, CountsFaults, IsJournalOpen, Stands};
 ghost use Rattle.rz_restart_laws.specs.Calls.{changing_calls};
@@ -17,14 +18,14 @@ ghost use Rattle.rz_chronicle.specs.Keys.{count_at, word_key, IsLater};
 ghost use Rattle.rz_chronicle.specs.Kinds.{IsFit, IsFitAfter, keeps_legal, volume_in};
 ghost use Rattle.rz_chronicle.specs.Holds.{Commits, Stays};
 ghost use Rattle.rz_chronicle.specs.Dealing.{new_word_token};
-ghost use Rattle.rz_shared_locked.specs.Adding.{MayBeNext};
-ghost use Rattle.rz_shared_locked.specs.LockedExports.{AreTextsOfBytes, AreMetadataFrom, IsCallOfBytes, IsUnanswered, AnswersCall, event_given, faults_of};
+ghost use Rattle.rz_shared_locked.specs.Adding.{AddsEvent, MayBeNext};
+ghost use Rattle.rz_shared_locked.specs.LockedExports.{AreTextsOfBytes, AreTextsFrom, AreMetadataFrom, IsCallOfBytes, IsUnanswered, AnswersCall, event_given, faults_of};
 
 use crate::counting::Metering;
-use crate::waiting::without_reply;
+use crate::waiting::{unanswered, without_reply};
 use rz_chronicle::{Asks, Book, Pass, WordToken};
 use rz_disk::Disk;
-use rz_events::{Actor, Call, CallRef, Reply};
+use rz_events::{Actor, Call, CallRef, Key, Listed, Reply};
 use rz_export::Export;
 use rz_metadata::{JournalRefusal, Metadata, NoReply};
 use std::alloc::Global;
@@ -115,9 +116,13 @@ impl<D: Disk, J: Metering> LockedExport<D, J> {
     }
 
     /// The metadata, and the token of the export's word. In each later log that has no further event of it they
-    /// have what the log gives, or they refused a call.
+    /// have what the log gives, or they refused a call, and each text of that log is one of bytes. The journal,
+    /// if there is one, comes back in them.
     pub fn close(self) -> (Metadata<D>, WordToken<J>)
         ensures word_token { result.1 ≡ record { word = w.Export; log = self } }
+        ensures volume { (export_in result.0).volume ≡ volume_in J.kind }
+        ensures journal { is_journaled result.0 ≡ is_some J.journal }
+        ensures texts { IsTrue (keeps_legal J.kind) → AreTextsFrom J.earlier self }
         ensures metadata { AreMetadataFrom D.tells D.meter D.image (faults_of J.journal) J.kind J.earlier self result.0 }
         ensures counted { CountsFaults D.meter (faults_of J.journal) result.0 }
     {
@@ -135,6 +140,46 @@ impl<D: Disk, J: Metering> LockedExport<D, J> {
     /// Why the journal did not keep a call, if there is a journal and it did not.
     pub fn refusal(&self) -> Option<JournalRefusal> {
         self.metadata.refusal()
+    }
+
+    /// How many bytes of a half of the journal its entries take, if there is a journal.
+    pub fn journal_used(&self) -> Option<u64>
+        ensures { is_some result ≡ is_some J.journal }
+    {
+        self.metadata.journal_used()
+    }
+
+    /// The least published block above `after` of the live files, if there is one. There is no reply where the
+    /// journal refused a call. Nothing is added to the log. It does not return where the export's word cannot
+    /// move.
+    pub fn published<R: Wait>(
+        &mut self,
+        rt: &R,
+        book: &Book<J>,
+        pass: &mut Pass<J>,
+        after: Option<Key>,
+    ) -> Result<Option<Listed>, NoReply>
+        ensures same { (pass.new.actor ≡ pass.old.actor) × (pass.new.keys ≡ pass.old.keys) }
+        ensures nothing { AddsEvent pass.old.keys pass.old.log None pass.new.log }
+        ensures listed { IfOk result (λ l. IsTrue (keeps_legal J.kind) → l ≡ published_after (export_of (volume_in J.kind) (facts (pass.new.log ++ J.earlier)) (of_word w.Export (pass.new.log ++ J.earlier))) after) }
+        ensures refused { OnErr result (IsTrue (is_some J.journal)) }
+        ensures fit { IsFit J.kind pass.new.log }
+    {
+        if !self.enter(book, pass) {
+            unanswered(rt);
+        }
+        self.listed(after)
+    }
+
+    // The same by the log that the locked export has seen.
+    fn listed(&self, after: Option<Key>) -> Result<Option<Listed>, NoReply>
+        ensures listed { IfOk result (λ l. IsTrue (keeps_legal J.kind) → l ≡ published_after (export_of (volume_in J.kind) (facts (self.now ++ J.earlier)) (of_word w.Export (self.now ++ J.earlier))) after) }
+        ensures refused { OnErr result (IsTrue (is_some J.journal)) }
+    {
+        match self.metadata.refusal() {
+            Some(_) => Err(NoReply),
+            None => Ok(self.metadata.published(after)),
+        }
     }
 
     /// Calls the export, and adds the event of its reply to the log. There is no reply where memory is
@@ -177,6 +222,7 @@ impl<D: Disk, J: Metering> LockedExport<D, J> {
         ensures stays { Stays pass.old.keys pass.old.log pass.new.log }
         ensures room { IsTrue result → count_at (word_key w.Export) self.new + 1 < 2 ^ 62 }
         ensures enters { count_at (word_key w.Export) self.new + 1 < 2 ^ 62 → IsTrue result }
+        ensures fit { IsFit J.kind pass.new.log }
     {
         crate::laws::locked_export_kept();
         crate::laws::calls_kept();

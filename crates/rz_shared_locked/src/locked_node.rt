@@ -138,13 +138,15 @@ impl<D: Disk, J: Metering> LockedNode<D, J> {
 
     /// The disk, if it is here, and the token of the node's word. In a book that keeps its log legal each
     /// image of the disk is one that the word gives, in each later log too that has no further event of it.
-    /// Where each node has its one disk all the time, the disk is here, and counted the faults of the word.
+    /// The disk of a node that is up is here. Where each node has its one disk all the time, the disk is here,
+    /// and counted the faults of the word.
     pub fn close_after(self) -> (Option<D>, WordToken<J>)
         ensures word_token { result.1 ≡ record { word = w.Node self.node; log = self.log } }
         ensures of_volume { IsNodeOf (volume_in J.kind) self.node }
         ensures images { IsTrue (keeps_legal J.kind) → IfSome result.0 (λ d. AreImagesFrom (volume_in J.kind) J.earlier self.log self.node (D.image d)) }
         ensures counted { IsTrue J.fixed → IfSome result.0 (λ d. AreCountedSince (J.first self.node) (D.meter d).own (of_word (w.Node self.node) self.log)) }
         ensures here { IsTrue J.fixed → IsSome result.0 }
+        ensures up { IsTrue (keeps_legal J.kind) → phase (of_word (w.Node self.node) (self.log ++ J.earlier)) ≡ phases.Up → IsSome result.0 }
     {
         crate::laws::locked_node_kept();
         rz_node_laws::longer::<D>();
@@ -227,6 +229,7 @@ impl<D: Disk, J: Metering> LockedNode<D, J> {
         ensures node { IsTrue result → self.new.node ≡ node }
         ensures room { IsTrue result → count_at (word_key (w.Node self.new.node)) self.new.log + 1 < 2 ^ 62 }
         ensures enters { self.new.node ≡ node → count_at (word_key (w.Node self.new.node)) self.new.log + 1 < 2 ^ 62 → IsTrue result }
+        ensures fit { IsFit J.kind pass.new.log }
     {
         crate::laws::locked_node_kept();
         rz_node_laws::longer::<D>();

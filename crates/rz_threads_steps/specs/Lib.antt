@@ -3,4 +3,3 @@ pub mod Adding
 pub mod Saying
 pub mod Acted
 pub mod Opening
-pub mod Asking

@@ -8,7 +8,6 @@ ghost use Rattle.rz_chronicle.specs.Kinds.{volume_in};
 ghost use Rattle.rz_show.specs.Shown.{shown_of};
 ghost use Rattle.rz_threads_steps.specs.Acted.{IsWorkRight, HasActed, IsStopped};
 ghost use Rattle.rz_threads_steps.specs.Adding.{PassLasts};
-ghost use Rattle.rz_threads_steps.specs.Asking.{IsAskKind};
 ghost use Rattle.rz_threads_steps.specs.Turned.{AreLost};
 
 use crate::export_calls::ask_export;
@@ -18,35 +17,13 @@ use crate::showing::Shows;
 use crate::store::SharedStore;
 use rz_chronicle::Pass;
 use rz_disk::Disk;
-use rz_events::{Actor, NodeAsk};
+use rz_events::Actor;
 use rz_link::Link;
-use rz_operation::{Ask, Machine};
+use rz_operation::{AskKind, Machine};
 use rz_player::Halted;
 use rz_shared::Metering;
 use std::alloc::Global;
 use std::sync::Wait;
-
-/// What kind of thing a machine asks.
-#[derive(Clone, Copy, Drop)]
-enum AskKind {
-    Rest,
-    Export,
-    Lock,
-    Node { node: u16, ask: NodeAsk },
-    Say,
-}
-
-fn ask_kind(machine: &Machine) -> AskKind
-    ensures { IsAskKind (ask_of machine.now.layout machine.now.work) result }
-{
-    match machine.next() {
-        Ask::Rest => AskKind::Rest,
-        Ask::Export(_) => AskKind::Export,
-        Ask::Lock { .. } => AskKind::Lock,
-        Ask::Node { node, ask } => AskKind::Node { node, ask },
-        Ask::Say(_) => AskKind::Say,
-    }
-}
 
 /// Does what an operation asks next, and tells it what came of it. An operation that rests asks nothing,
 /// and one that wants bytes of a file locked is none for threads: neither takes a turn. Where memory is
@@ -76,7 +53,7 @@ pub fn step<R: Wait, D: Disk, J: Metering, L: Link, S: Shows>(
     ensures stopped { OnErr result (IsStopped J.kind number pass.old pass.new machine.old) }
     ensures kept { OnErr result (machine.new ≡ machine.old) }
 {
-    match ask_kind(machine) {
+    match machine.ask_kind() {
         AskKind::Rest | AskKind::Lock => Err(Halted),
         AskKind::Export => ask_export(rt, alloc, store, pass, machine, shown),
         AskKind::Node { node, ask } => message(rt, store, pass, link, node, machine, ask, bins),

@@ -43,7 +43,7 @@ loop-locked_node-preserved g c =
     let disk_more = c.push_reserved.ensures.len in let word_token_more = c.push_reserved-in-Some.ensures.len in
     let disk_room = c.push_reserved.ensures.capacity in let word_token_room = c.push_reserved-in-Some.ensures.capacity in
     let it = returned g.D.Disk.meter g.D.Disk.image g.J.Metering.fixed g.J.Naming.kind g.J.Naming.earlier g.J.Metering.first locked_node.node locked_node.log c.close_after-disk.result.0 disk word_token c.close_after-disk.ensures.word_token c.unfused.ensures
-    c.close_after-disk.ensures.of_volume c.close_after-disk.ensures.images c.close_after-disk.ensures.counted c.close_after-disk.ensures.here in
+    c.close_after-disk.ensures.of_volume c.close_after-disk.ensures.images c.close_after-disk.ensures.counted c.close_after-disk.ensures.here c.close_after-disk.ensures.up in
     let word = word-next c.loop-locked_node.word_tokens.items word_token c.loop-locked_node.locked_nodes.items c.pop.new.self.items locked_node (words-at c.args.locked_nodes.items) c.in-Some.ensures.items (ap (λ (p : WordTokenView). p.word) c.close_after-disk.ensures.word_token) inv.words in
     record {
       returned = rw (c.push_reserved.ensures.items, c.push_reserved-in-Some.ensures.items) (zip-more (IsReturnedIf g.D.Disk.meter g.D.Disk.image g.J.Metering.fixed g.J.Naming.kind g.J.Naming.earlier g.J.Metering.first) c.loop-locked_node.disks.items c.loop-locked_node.word_tokens.items disk word_token inv.returned it);

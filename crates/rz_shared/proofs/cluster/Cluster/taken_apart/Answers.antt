@@ -7,7 +7,7 @@ use Rattle.rz_events.specs.declared.events.Word.TheVariants as w
 use Rattle.rz_events.specs.declared.events.Event.{Event}
 use Rattle.rz_chronicle.specs.Keys.{sids_of}
 use Rattle.rz_chronicle.specs.Rules.{WordTokenView}
-use Rattle.rz_shared_locked.specs.LockedExports.{AreMetadataFrom, faults_of}
+use Rattle.rz_shared_locked.specs.LockedExports.{AreMetadataFrom, AreTextsFrom, faults_of}
 use Rattle.rz_shared.specs.Arranged.{sids}
 use Rattle.rz_shared.proofs.Ordered.{in-order}
 use Rattle.rz_shared.proofs.cluster.Cluster.taken_apart.Goals as goal
@@ -32,6 +32,10 @@ pub returns-clause-metadata : goal.returns-clause-metadata
 returns-clause-metadata g c =
     subst (λ (l : List Event). AreMetadataFrom g.D.Disk.tells g.D.Disk.meter g.D.Disk.image (faults_of g.J.Metering.journal) g.J.Naming.kind g.J.Naming.earlier l c.close-metadata.result.0)
     (sym (ap (λ (p : WordTokenView). p.log) c.close-metadata.ensures.word_token)) c.close-metadata.ensures.metadata
+
+pub returns-clause-texts : goal.returns-clause-texts
+returns-clause-texts g c = λ keeps.
+    subst (AreTextsFrom g.J.Naming.earlier) (sym (ap (λ (p : WordTokenView). p.log) c.close-metadata.ensures.word_token)) (c.close-metadata.ensures.texts keeps)
 
 pub returns-clause-home : goal.returns-clause-home
 returns-clause-home g c =

@@ -1,9 +1,9 @@
--- What a machine asks.
+-- What kind of thing a machine asks.
 use Rattle.std.specs.Prelude.{ℕ, Bool, ◌≡◌, List}
 use Rattle.rz_events.specs.declared.export.Call.{Call}
 use Rattle.rz_operation_model.specs.Ask.{Ask, AskExport, AskLock, AskNode, Rest, Say, Saying}
-use Rattle.rz_threads_steps.specs.declared.stepping.AskKind.{AskKind}
-use Rattle.rz_threads_steps.specs.declared.stepping.AskKind.TheVariants as kind
+use Rattle.rz_operation.specs.declared.asking.AskKind.{AskKind}
+use Rattle.rz_operation.specs.declared.asking.AskKind.TheVariants as kind
 
 -- what is asked is of this kind
 abbrev pub IsAskKind : Ask → AskKind → Type 0
