@@ -149,21 +149,21 @@ fn cause_of_write(fault: WriteFault) -> Cause {
 }
 
 /// A call that was refused before it wrote anything.
-pub(super) fn refused(cause: Cause) -> Refused {
+pub(super) fn refused_for(cause: Cause) -> Refused {
     Refused { written: 0, cause }
 }
 
 fn of_name<T: Drop>(told: Result<T, NameFault>) -> Result<T, Refused> {
     match told {
         Ok(told) => Ok(told),
-        Err(fault) => Err(refused(cause_of_name(fault))),
+        Err(fault) => Err(refused_for(cause_of_name(fault))),
     }
 }
 
 fn of_read<T: Drop>(told: Result<T, ReadFault>) -> Result<T, Refused> {
     match told {
         Ok(told) => Ok(told),
-        Err(fault) => Err(refused(cause_of_read(fault))),
+        Err(fault) => Err(refused_for(cause_of_read(fault))),
     }
 }
 
@@ -177,7 +177,7 @@ fn made(told: Result<u128, NameFault>) -> Result<Told, Refused> {
     Ok(Told::Made(fid))
 }
 
-fn attributes(told: Result<Attr, NameFault>) -> Result<Told, Refused> {
+fn attributes_told(told: Result<Attr, NameFault>) -> Result<Told, Refused> {
     let attr = of_name(told)?;
     Ok(Told::Attributes(Attributes {
         fid: attr.fid,
@@ -244,7 +244,7 @@ fn put<R: Abort + AllocGlobal + Wait, D: Disk, J: Metering>(
     drop(text);
     match told {
         Ok(()) => Ok(Told::Done),
-        Err(fault) => Err(refused(cause_of_write(fault))),
+        Err(fault) => Err(refused_for(cause_of_write(fault))),
     }
 }
 
@@ -286,7 +286,7 @@ fn read<R: Abort + AllocGlobal + Wait, D: Disk, J: Metering>(
         }
         Err(fault) => {
             drop(out);
-            Err(refused(cause_of_read(fault)))
+            Err(refused_for(cause_of_read(fault)))
         }
     }
 }
@@ -308,7 +308,7 @@ pub(super) fn perform<R: Abort + AllocGlobal + Wait, D: Disk, J: Metering>(
         Call::SetAttributes(path, mode, mtime) => {
             done(store.set_attributes(rt, path, mode, mtime))
         }
-        Call::Attributes(path) => attributes(store.stat(rt, path)),
+        Call::Attributes(path) => attributes_told(store.stat(rt, path)),
         Call::Size(path) => size(store.stat(rt, path)),
         Call::List(path) => names(rt, store.list(rt, path)),
         Call::ReadLink(path) => target(store.read_link(rt, path)),

@@ -48,7 +48,8 @@ impl Draws {
     }
 
     fn file(&mut self) -> &'static str {
-        self.path(0, FILES)
+        let count = if self.below(2) == 0 { 3 } else { FILES };
+        self.path(0, count)
     }
 
     fn dir(&mut self) -> &'static str {
@@ -100,12 +101,12 @@ impl Draws {
     }
 
     fn change_of_names(&mut self) -> Call<'static> {
-        match self.below(12) {
-            0..=4 => Call::Create(self.file()),
-            5 | 6 => Call::Mkdir(self.dir()),
-            7 => Call::Remove(self.file()),
-            8 => Call::RemoveDir(self.dir()),
-            9 => Call::Rename(self.dir(), self.dir()),
+        match self.below(16) {
+            0..=7 => Call::Create(self.file()),
+            8..=11 => Call::Mkdir(self.dir()),
+            12 => Call::Remove(self.file()),
+            13 => Call::RemoveDir(self.dir()),
+            14 => Call::Rename(self.dir(), self.dir()),
             _ => Call::Rename(self.any(), self.any()),
         }
     }

@@ -1,6 +1,6 @@
 //! What a store ought to hold, in plain code: a map from paths to bytes, and a set of directories.
 
-use crate::calls::{Call, Cause, Refused, Told, bytes_of, refused};
+use crate::calls::{Call, Cause, Refused, Told, bytes_of, refused_for};
 use crate::opened::push;
 use rz_events::Kind;
 use std::alloc::Global;
@@ -403,7 +403,7 @@ impl Model {
         call: Call<'_>,
     ) -> Result<Told, Refused> {
         if let Some(cause) = self.fault(rt, call) {
-            return Err(refused(cause));
+            return Err(refused_for(cause));
         }
         match self.look(rt, call) {
             Some(told) => Ok(told),

@@ -1,11 +1,13 @@
 //! A store is opened on disks, used, and let go.
 
-ghost use Rattle.std.specs.Prelude.{◌≡◌, ◌×◌, ℕ, false, IsTrue};
+ghost use Rattle.std.specs.Prelude.{◌≡◌, ◌+◌, ℕ, false, IsTrue};
+ghost use Rattle.rz_events.specs.declared.keys.Actor.TheVariants as a;
+ghost use Rattle.rz_chronicle.specs.Dealing.{new_pass, ArePasses};
 ghost use Rattle.rz_chronicle.specs.Kinds.{HasEarlierLog, keeps_legal, volume_in};
-ghost use Rattle.rz_shared_locked.specs.LockedExports.{faults_of};
+ghost use Rattle.rz_shared_locked.specs.LockedExports.{AreTextsOfBytes, faults_of};
 ghost use Rattle.rz_store_opening.specs.Opening.{IsAfterPast, IsOpenedOnSome};
 
-use rz_chronicle::NewBook;
+use rz_chronicle::{NewBook, read_back_after};
 use rz_config::Volume;
 use rz_disk::Disk;
 use rz_journal::JournalFault;
@@ -17,6 +19,7 @@ use rz_store_opening::{
 };
 use std::marker::Brand;
 use std::process::Abort;
+use std::snapshot::Snapshot;
 use std::sync::Wait;
 
 /// What uses a store that was opened.
@@ -117,12 +120,13 @@ fn handed_back<R: Abort + AllocGlobal, D: Disk>(
     Disks { nodes, journal }
 }
 
-/// Joins what was opened, lets a visitor use it, and lets it go.
+/// Joins what was opened, lets a visitor use it, and lets it go. The journal's disk came so.
 fn use_opened<J: Metering, R: Abort + AllocGlobal + Wait, D: Disk, V: Visitor>(
     rt: &R,
     volume: &Volume,
     opened: OpenedDisks<D>,
     book: NewBook,
+    came: &Snapshot<D>,
     visitor: &mut V,
 ) -> Disks<D>
     requires names { (book.seen.book ≡ J.book) × (book.tokens.counters ≡ J.counters) × (book.tokens.copy ≡ J.copy) × (book.tokens.kind ≡ J.kind) }
@@ -133,18 +137,26 @@ fn use_opened<J: Metering, R: Abort + AllocGlobal + Wait, D: Disk, V: Visitor>(
     requires earlier { HasEarlierLog J.kind J.earlier }
     requires goes_on { IsTrue (keeps_legal J.kind) → IsAfterPast D.tells D.meter D.text D.image volume.now (faults_of J.journal) J.earlier opened }
 {
+    let _ = came;
     match join::<J, D>(rt.alloc(), volume, opened, book) {
         Ok(joined) => use_joined(rt, volume, joined, visitor),
         Err(_) => rt.panic("memory"),
     }
 }
 
+/// Makes a store of what was joined, lets a visitor use it, and lets it go.
 fn use_joined<J: Metering, R: Abort + AllocGlobal + Wait, D: Disk, V: Visitor>(
     rt: &R,
     volume: &Volume,
     joined: Joined<D, J>,
     visitor: &mut V,
 ) -> Disks<D>
+    requires volume { volume.now ≡ volume_in J.kind }
+    requires cluster { joined.cluster ≡ volume_in J.kind }
+    requires admin { joined.admin ≡ new_pass a.Admin }
+    requires clients { ArePasses 64 (λ i. a.Client (i + 1)) joined.clients.items }
+    requires rebuilders { ArePasses 16 (λ i. a.Rebuilder (i + 1)) joined.rebuilders.items }
+    requires texts { IsTrue (keeps_legal J.kind) → AreTextsOfBytes J.earlier }
 {
     match Store::join(rt.alloc(), volume, joined) {
         Ok((mut store, missing)) => {
@@ -165,11 +177,14 @@ pub(super) fn visit<R: Abort + AllocGlobal + Wait, D: Disk, V: Visitor>(
     disks: Disks<D>,
     visitor: &mut V,
 ) -> (Disks<D>, Option<JournalFault>) {
+    read_back_after();
     let Disks { nodes, journal } = disks;
-    assert!(rt; nodes.len() == volume.node_count());
+    let count = volume.node_count();
+    assert!(rt; nodes.len() == count);
+    let came = Snapshot::of(&journal);
     match open_after::<Brand, D>(rt.alloc(), volume, nodes, journal) {
         Ok((opened, book)) => {
-            let disks = use_opened::<Brand, R, D, V>(rt, volume, opened, book, visitor);
+            let disks = use_opened::<Brand, R, D, V>(rt, volume, opened, book, &came, visitor);
             (disks, None)
         }
         Err(Unopened {

