@@ -280,7 +280,10 @@ fn read<R: Abort + AllocGlobal + Wait, D: Disk, J: Metering>(
     match store.read(rt, path, offset, &mut out) {
         Ok(told) => {
             let rest = out.get(told..).unwrap_or(&[]);
-            assert!(rt; rest.iter().all(|byte| *byte == 0xa5), "bytes behind a range");
+            assert!(rt;
+                rest.iter().all(|byte| *byte == 0xa5),
+                "bytes behind a range"
+            );
             out.truncate(told);
             Ok(Told::Bytes(out))
         }

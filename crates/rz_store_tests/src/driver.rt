@@ -140,7 +140,10 @@ impl<'a> Driver<'a> {
         match told {
             Ok(told) => {
                 let expected = self.model.answer(rt, call);
-                assert!(rt; Ok(told) == expected, "a call that was cut off told {call:?}");
+                assert!(rt;
+                    Ok(told) == expected,
+                    "a call that was cut off told {call:?}"
+                );
                 self.tally.done = self.tally.done.saturating_add(1);
             }
             Err(refused) => {
@@ -179,7 +182,10 @@ impl<'a> Driver<'a> {
             return true;
         }
         let expected = self.model.answer(rt, call);
-        assert!(rt; told == expected, "{call:?} told {told:?}, and not {expected:?}");
+        assert!(rt;
+            told == expected,
+            "{call:?} told {told:?}, and not {expected:?}"
+        );
         self.tally.calls = self.tally.calls.saturating_add(1);
         if told.is_err() {
             self.tally.refused = self.tally.refused.saturating_add(1);

@@ -104,7 +104,12 @@ impl Visitor for Names {
                 Call::Rename("/d", "/e"),
             ],
         );
-        are_refused(rt, store, Cause::NoEntry, &[Call::Size("/d/f"), Call::Size("/d")]);
+        are_refused(
+            rt,
+            store,
+            Cause::NoEntry,
+            &[Call::Size("/d/f"), Call::Size("/d")],
+        );
         has_attributes(
             rt,
             store,

@@ -83,7 +83,10 @@ fn place_of<D: Disk>(why: &Option<Missing<D>>) -> Place {
     }
 }
 
-fn places_of<R: Abort + AllocGlobal, D: Disk>(rt: &R, missing: &[Option<Missing<D>>]) -> Vec<Place> {
+fn places_of<R: Abort + AllocGlobal, D: Disk>(
+    rt: &R,
+    missing: &[Option<Missing<D>>],
+) -> Vec<Place> {
     let mut places = Vec::new(rt.alloc());
     for why in missing {
         push(rt, &mut places, place_of(why));
@@ -187,11 +190,13 @@ pub(super) fn visit<R: Abort + AllocGlobal + Wait, D: Disk, V: Visitor>(
             let disks = use_opened::<Brand, R, D, V>(rt, volume, opened, book, &came, visitor);
             (disks, None)
         }
-        Err(Unopened {
-            disks,
-            journal,
-            fault,
-        }) => {
+        Err(
+            Unopened {
+                disks,
+                journal,
+                fault,
+            },
+        ) => {
             let nodes = disks;
             (Disks { nodes, journal }, Some(fault))
         }

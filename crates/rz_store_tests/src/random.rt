@@ -76,7 +76,12 @@ fn open_once<'a, R: Abort + AllocGlobal + Wait>(
 }
 
 /// Makes so many calls at random, and says what was done, and how often a disk was out.
-fn drive<R: Abort + AllocGlobal + Wait>(rt: &R, shape: Shape, seed: u64, calls: u64) -> (Tally, u64) {
+fn drive<R: Abort + AllocGlobal + Wait>(
+    rt: &R,
+    shape: Shape,
+    seed: u64,
+    calls: u64,
+) -> (Tally, u64) {
     let power = Power::until(u64::MAX);
     let volume = volume_of(rt, shape);
     let mut disks = new_disks(rt, &volume, &power, None);
@@ -121,7 +126,10 @@ fn one_disk_of_four_may_be_away(rt: HostRuntime) {
     };
     let first = drive(&rt, shape, 1, 3500);
     let second = drive(&rt, shape, 2, 3500);
-    assert!(rt; was_all_tried(first, 3500) && was_all_tried(second, 3500), "{first:?} {second:?}");
+    assert!(rt;
+        was_all_tried(first, 3500) && was_all_tried(second, 3500),
+        "{first:?} {second:?}"
+    );
 }
 
 #[test]

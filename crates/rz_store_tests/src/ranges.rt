@@ -25,7 +25,12 @@ fn size_is<R: Abort + AllocGlobal + Wait, D: Disk, J: Metering>(
     path: &str,
     size: u64,
 ) {
-    tells(rt, store, Call::Size(path), Ok(Told::Size(Kind::File, size)));
+    tells(
+        rt,
+        store,
+        Call::Size(path),
+        Ok(Told::Size(Kind::File, size)),
+    );
 }
 
 /// Six bytes in the first block, six in the second, none in the third, and three in the fourth.
@@ -53,10 +58,19 @@ fn write_pieces<R: Abort + AllocGlobal + Wait, D: Disk, J: Metering>(
 }
 
 /// A block that is put has nothing behind its bytes, and the file stays as long as it was.
-fn put_blocks<R: Abort + AllocGlobal + Wait, D: Disk, J: Metering>(rt: &R, store: &mut Store<D, J>) {
+fn put_blocks<R: Abort + AllocGlobal + Wait, D: Disk, J: Metering>(
+    rt: &R,
+    store: &mut Store<D, J>,
+) {
     are_done(rt, store, &[Call::Put("/f", 3, seeded(2, 90))]);
     has_block(rt, store, "/f", 3, Some(&[90, 91]));
-    reads(rt, store, "/f", (12287, 100), &[0, 90, 91, 0, 0, 0, 0, 0, 0]);
+    reads(
+        rt,
+        store,
+        "/f",
+        (12287, 100),
+        &[0, 90, 91, 0, 0, 0, 0, 0, 0],
+    );
     size_is(rt, store, "/f", 12296);
     are_done(rt, store, &[Call::Put("/g", 1, seeded(4096, 3))]);
     size_is(rt, store, "/g", 8192);
@@ -70,7 +84,13 @@ fn read_the_ends<R: Abort + AllocGlobal + Wait, D: Disk, J: Metering>(
     rt: &R,
     store: &mut Store<D, J>,
 ) {
-    for (offset, count) in [(12296, 5), (12297, 5), (4_294_967_296, 5), (u64::MAX, 1), (0, 0)] {
+    for (offset, count) in [
+        (12296, 5),
+        (12297, 5),
+        (4_294_967_296, 5),
+        (u64::MAX, 1),
+        (0, 0),
+    ] {
         reads(rt, store, "/f", (offset, count), &[]);
     }
     reads(rt, store, "/f", (12295, 5), &[0]);
@@ -83,7 +103,11 @@ impl Visitor for Ranges {
         store: &mut Store<D, J>,
         _places: &[Place],
     ) {
-        are_made(rt, store, &[(Call::Create("/f"), 1), (Call::Create("/g"), 2)]);
+        are_made(
+            rt,
+            store,
+            &[(Call::Create("/f"), 1), (Call::Create("/g"), 2)],
+        );
         reads(rt, store, "/f", (0, 10), &[]);
         write_pieces(rt, store);
         put_blocks(rt, store);

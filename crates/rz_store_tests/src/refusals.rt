@@ -3,7 +3,9 @@
 use crate::calls::{Attributes, Call, Cause, Told};
 use crate::names::visit_twice;
 use crate::opened::{Place, Visitor};
-use crate::telling::{are_done, are_made, are_refused, has_attributes, has_block, lists, reads, seeded, tells};
+use crate::telling::{
+    are_done, are_made, are_refused, has_attributes, has_block, lists, reads, seeded, tells,
+};
 use rz_disk::Disk;
 use rz_events::Kind;
 use rz_shared::Metering;
@@ -133,7 +135,11 @@ fn blocks_are_refused<R: Abort + AllocGlobal + Wait, D: Disk, J: Metering>(
     rt: &R,
     store: &mut Store<D, J>,
 ) {
-    for (path, cause) in [("/d", Cause::IsDir), ("/", Cause::IsDir), ("/l", Cause::IsLink)] {
+    for (path, cause) in [
+        ("/d", Cause::IsDir),
+        ("/", Cause::IsDir),
+        ("/l", Cause::IsLink),
+    ] {
         are_refused(
             rt,
             store,
@@ -183,7 +189,11 @@ impl Visitor for Refusals {
         names_are_refused(rt, store);
         blocks_are_refused(rt, store);
         // a name that is moved to itself, or to another name of its object, stays
-        are_done(rt, store, &[Call::Rename("/f", "/f"), Call::Rename("/d", "/d")]);
+        are_done(
+            rt,
+            store,
+            &[Call::Rename("/f", "/f"), Call::Rename("/d", "/d")],
+        );
     }
 }
 
@@ -213,7 +223,11 @@ impl Visitor for Unchanged {
         );
         tells(rt, store, Call::Create("/x"), Ok(Told::Made(6)));
         // the last block that a file may have ends at the last offset
-        are_done(rt, store, &[Call::Write("/x", LAST * 4096 + 4090, seeded(6, 1))]);
+        are_done(
+            rt,
+            store,
+            &[Call::Write("/x", LAST * 4096 + 4090, seeded(6, 1))],
+        );
         tells(
             rt,
             store,

@@ -16,7 +16,10 @@ pub(super) fn tells<R: Abort + AllocGlobal + Wait, D: Disk, J: Metering>(
     expected: Result<Told, Refused>,
 ) {
     let told = perform(rt, store, call);
-    assert!(rt; told == expected, "{call:?} told {told:?}, and not {expected:?}");
+    assert!(rt;
+        told == expected,
+        "{call:?} told {told:?}, and not {expected:?}"
+    );
     drop(told);
     drop(expected);
 }

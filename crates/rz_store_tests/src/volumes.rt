@@ -20,8 +20,7 @@ pub(super) fn volume_of<R: Abort + AllocGlobal>(rt: &R, shape: Shape) -> Volume 
     let Shape { layout, cells, .. } = shape;
     let mut text = format!(in rt.alloc();
         "{{\"layout\":{layout},\"bsize\":4096,\"clusters\":[{{\"cid\":1,\"nodes\":["
-    )
-    .expect(rt, "memory");
+    ).expect(rt, "memory");
     let mut gap = "";
     for at in 0..shape.nodes {
         let sid = at.saturating_add(1);
