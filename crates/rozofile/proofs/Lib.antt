@@ -1,2 +1,2 @@
+mod Lengths
 mod Looks
-mod Reopened

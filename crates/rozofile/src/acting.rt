@@ -1,85 +1,39 @@
-//! A store is opened, and something is done with it.
+//! A store is opened, something is done with it, and it is let go.
 
-ghost use Rattle.std.specs.Prelude.{◌≡◌, ℕ, false, IsTrue};
+ghost use Rattle.std.specs.Prelude.{◌≡◌, ◌+◌, ℕ, false, IsTrue, length};
+ghost use Rattle.rz_events.specs.Volume.{nodes_of};
+ghost use Rattle.rz_events.specs.declared.keys.Actor.TheVariants as a;
+ghost use Rattle.rz_chronicle.specs.Dealing.{new_pass, ArePasses};
 ghost use Rattle.rz_chronicle.specs.Kinds.{HasEarlierLog, keeps_legal, volume_in};
-ghost use Rattle.rz_shared_locked.specs.LockedExports.{faults_of};
+ghost use Rattle.rz_shared_locked.specs.LockedExports.{AreTextsOfBytes, faults_of};
 ghost use Rattle.rz_store_opening.specs.Opening.{IsAfterPast, IsOpenedOnSome};
 
 use crate::failure::{Failure, of_file, of_journal};
 use crate::opening::{lock_store, open_disks};
-use crate::printing::{missing_words, print, tell};
+use crate::places::{node_lines, show_status, tell_missing};
+use crate::printing::tell;
 use crate::session::Session;
 use rz_chronicle::{NewBook, read_back_after};
+use rz_config::Volume;
 use rz_disk::{Disk, FileDisk};
 use rz_nodes::Missing;
 use rz_shared::Metering;
 use rz_store::{ClosedStore, Store};
 use rz_store_file::StoreFile;
-use rz_store_opening::{OpenedDisks, Unopened, join, open_after};
+use rz_store_opening::{Joined, OpenedDisks, Unopened, join, open_after};
 use rz_store_words::Task;
-use std::alloc::{AllocError, Global};
 use std::marker::Brand;
+use std::snapshot::Snapshot;
 use std::sync::Wait;
 
-/// A node, the path of its disk, and why it is away, if it is.
+/// What is to be done with which store.
 #[derive(Drop)]
-struct NodeLine<'a> {
-    sid: u16,
-    path: &'a str,
-    why: Option<&'static str>,
-}
-
-/// The nodes of a store, in the order of its description.
-fn node_lines<'a, D: Disk>(
-    alloc: Global,
-    store: &'a StoreFile,
-    missing: &[Option<Missing<D>>],
-) -> Result<Vec<NodeLine<'a>>, AllocError> {
-    let mut lines = Vec::new(alloc);
-    for cluster in &store.volume().clusters {
-        for node in &cluster.nodes {
-            let path = match store.disks().get(lines.len()) {
-                Some(path) => path.as_str(),
-                None => "",
-            };
-            let why = match missing.get(lines.len()) {
-                Some(Some(why)) => Some(missing_words(why)),
-                _ => None,
-            };
-            let sid = node.sid;
-            lines.push(NodeLine { sid, path, why })?;
-        }
-    }
-    Ok(lines)
-}
-
-/// Says of each node that is away why it is. It tells whether all are here.
-fn tell_missing(rt: &HostRuntime, lines: &[NodeLine<'_>]) -> bool {
-    let alloc = rt.alloc();
-    let mut all_here = true;
-    for line in lines {
-        let path = line.path;
-        if let Some(why) = line.why {
-            tell(rt, format!(in alloc; "{path}: {why}; its node is away"));
-            all_here = false;
-        }
-    }
-    all_here
-}
-
-/// Shows of each disk whether it is here.
-fn show_status(rt: &HostRuntime, lines: &[NodeLine<'_>], journal: &str) -> Result<(), Failure> {
-    let alloc = rt.alloc();
-    let mut out = String::new(alloc);
-    for line in lines {
-        let NodeLine { sid, path, .. } = *line;
-        let words = line.why.unwrap_or("here");
-        let text = format!(in alloc; "node {sid} {path}: {words}\n")?;
-        out.push_str(text.as_str())?;
-    }
-    let text = format!(in alloc; "journal {journal}: here\n")?;
-    out.push_str(text.as_str())?;
-    print(rt, out.as_bytes())
+struct Errand<'a, T: Wait> {
+    /// What calls wait by.
+    waits: &'a T,
+    rt: &'a HostRuntime,
+    described: &'a StoreFile,
+    task: &'a Task<'a>,
 }
 
 /// What came of a command, and the store that was let go then.
@@ -115,37 +69,77 @@ fn act_on<'a, J: Metering, T: Wait, D: Disk>(
     Ok(all_here)
 }
 
-/// Does what is asked for with a store whose disks were opened, and lets the store go.
-fn act<'a, J: Metering, T: Wait, D: Disk>(
-    waits: &'a T,
-    rt: &'a HostRuntime,
-    described: &'a StoreFile,
+/// Makes a store of what was joined, does what is asked for, and lets it go.
+fn act_joined<'a, J: Metering, T: Wait, D: Disk>(
+    errand: &Errand<'a, T>,
+    volume: &Volume,
+    joined: Joined<D, J>,
+) -> Acted<D>
+    requires volume { volume.now ≡ volume_in J.kind }
+    requires cluster { joined.cluster ≡ volume_in J.kind }
+    requires admin { joined.admin ≡ new_pass a.Admin }
+    requires clients { ArePasses 64 (λ i. a.Client (i + 1)) joined.clients.items }
+    requires rebuilders { ArePasses 16 (λ i. a.Rebuilder (i + 1)) joined.rebuilders.items }
+    requires texts { IsTrue (keeps_legal J.kind) → AreTextsOfBytes J.earlier }
+{
+    let rt = errand.rt;
+    match Store::join(rt.alloc(), volume, joined) {
+        Ok((store, missing)) => {
+            let waits = errand.waits;
+            let mut session = Session { waits, rt, store };
+            let done = act_on(&mut session, errand.described, &missing, errand.task);
+            let Session { store, .. } = session;
+            Acted {
+                done,
+                closed: Some(store.close()),
+            }
+        }
+        Err(_) => not_begun(),
+    }
+}
+
+/// Joins what was opened, and does what is asked for. The journal's disk came so.
+fn act_opened<'a, J: Metering, T: Wait, D: Disk>(
+    errand: &Errand<'a, T>,
+    volume: &Volume,
     opened: OpenedDisks<D>,
     book: NewBook,
-    task: &Task<'_>,
+    came: &Snapshot<D>,
 ) -> Acted<D>
     requires names { (book.seen.book ≡ J.book) × (book.tokens.counters ≡ J.counters) × (book.tokens.copy ≡ J.copy) × (book.tokens.kind ≡ J.kind) }
-    requires volume { described.now.volume ≡ volume_in J.kind }
+    requires volume { volume.now ≡ volume_in J.kind }
     requires free { J.fixed ≡ false }
     requires first { (n : ℕ) → J.first n ≡ 0 }
-    requires opened { IsOpenedOnSome D.tells D.meter D.text D.image described.now.volume J.journal opened }
+    requires opened { IsOpenedOnSome D.tells D.meter D.text D.image volume.now J.journal opened }
     requires earlier { HasEarlierLog J.kind J.earlier }
-    requires goes_on { IsTrue (keeps_legal J.kind) → IsAfterPast D.tells D.meter D.text D.image described.now.volume (faults_of J.journal) J.earlier opened }
+    requires goes_on { IsTrue (keeps_legal J.kind) → IsAfterPast D.tells D.meter D.text D.image volume.now (faults_of J.journal) J.earlier opened }
 {
-    let alloc = rt.alloc();
-    let volume = described.volume();
-    let Ok(joined) = join::<J, D>(alloc, volume, opened, book) else {
-        return not_begun();
-    };
-    let Ok((store, missing)) = Store::join(alloc, volume, joined) else {
-        return not_begun();
-    };
-    let mut session = Session { waits, rt, store };
-    let done = act_on(&mut session, described, &missing, task);
-    let Session { store, .. } = session;
-    Acted {
-        done,
-        closed: Some(store.close()),
+    let _ = came;
+    match join::<J, D>(errand.rt.alloc(), volume, opened, book) {
+        Ok(joined) => act_joined(errand, volume, joined),
+        Err(_) => not_begun(),
+    }
+}
+
+/// Opens a store on its disks, and does what is asked for. Where it is not opened, its disks come back.
+fn act<'a, T: Wait, D: Disk>(
+    errand: &Errand<'a, T>,
+    volume: &Volume,
+    disks: Vec<Option<D>>,
+    journal: D,
+) -> Result<Acted<D>, Unopened<D>>
+    requires count { length disks.items ≡ length (nodes_of volume.now.clusters) }
+{
+    read_back_after();
+    let count = volume.node_count();
+    let _ = count;
+    let came = Snapshot::of(&journal);
+    match open_after::<Brand, D>(errand.rt.alloc(), volume, disks, journal) {
+        Ok((opened, book)) => {
+            let acted = act_opened::<Brand, T, D>(errand, volume, opened, book, &came);
+            Ok(acted)
+        }
+        Err(unopened) => Err(unopened),
     }
 }
 
@@ -186,32 +180,16 @@ fn outcome(rt: &HostRuntime, acted: Acted<FileDisk<'_, HostRuntime>>) -> Result<
 }
 
 /// Does what is asked for with a store. It tells whether all disks are here and none failed.
-fn with_disks<'a, T: Wait>(
-    waits: &'a T,
-    rt: &'a HostRuntime,
-    described: &'a StoreFile,
-    task: &Task<'_>,
-) -> Result<bool, Failure> {
-    read_back_after();
-    let alloc = rt.alloc();
-    let _rules = described.volume().node_count();
+fn with_disks<'a, T: Wait>(errand: &Errand<'a, T>) -> Result<bool, Failure> {
+    let rt = errand.rt;
+    let described = errand.described;
     let disks = open_disks(rt, described.disks())?;
-    let journal = match FileDisk::open(rt, alloc, described.journal()) {
+    let journal = match FileDisk::open(rt, rt.alloc(), described.journal()) {
         Ok(journal) => journal,
-        Err(error) => return Err(of_file(alloc, described.journal(), &error)),
+        Err(error) => return Err(of_file(rt.alloc(), described.journal(), &error)),
     };
-    match open_after::<Brand, FileDisk<'_, HostRuntime>>(
-        alloc,
-        described.volume(),
-        disks,
-        journal,
-    ) {
-        Ok((opened, book)) => {
-            let acted = act::<Brand, T, FileDisk<'_, HostRuntime>>(
-                waits, rt, described, opened, book, task,
-            );
-            outcome(rt, acted)
-        }
+    match act(errand, described.volume(), disks, journal) {
+        Ok(acted) => outcome(rt, acted),
         Err(fault) => Err(unopened(rt, &fault)),
     }
 }
@@ -225,7 +203,12 @@ pub fn with_store<T: Wait>(
     task: &Task<'_>,
 ) -> Result<bool, Failure> {
     let locked = lock_store(rt, path)?;
-    let done = with_disks(waits, rt, &locked.store, task);
+    let done = with_disks(&Errand {
+        waits,
+        rt,
+        described: &locked.store,
+        task,
+    });
     drop(locked);
     done
 }

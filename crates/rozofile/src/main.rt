@@ -6,7 +6,8 @@
 //! the store allows, that each refusal is told by the text that `specs` has for it, and that each function ends unless
 //! it waits.
 //!
-//! In reading order: `failure`, `printing`, `opening`, `creating`, `session`, `transfers`, `names`, `usage`, `acting`.
+//! In reading order: `failure`, `printing`, `opening`, `creating`, `session`, `transfers`, `names`, `usage`, `places`,
+//! `acting`.
 #![tactic(auto)]
 
 mod acting;
@@ -14,6 +15,7 @@ mod creating;
 mod failure;
 mod names;
 mod opening;
+mod places;
 mod printing;
 mod session;
 mod transfers;
