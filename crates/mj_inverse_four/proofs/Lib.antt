@@ -7,5 +7,3 @@ pub mod Found
 pub mod Angled
 pub mod Blocks
 pub mod Taken
-pub mod Filled
-pub mod Fourfold

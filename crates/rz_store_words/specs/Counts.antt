@@ -25,8 +25,12 @@ abbrev pub was_none : Seen → Bool
 was_none seen.Nothing = true
 was_none _ = false
 
-unfoldable pub seen_words : List Seen → List ℕ
-seen_words all = codes "too few disks gave their part: " ++ (decimal (count_by was_held all) ++ (codes " did, " ++ (decimal (count_by was_away all) ++ (codes " are away, " ++ (decimal (count_by was_failed all) ++ (codes " failed, " ++ (decimal (count_by was_none all) ++ codes " have none")))))))
+-- so many gave their record, are away, failed, and have none
+unfoldable pub seen_line : ℕ → ℕ → ℕ → ℕ → List ℕ
+seen_line held away failed none = codes "too few disks gave their part: " ++ (decimal held ++ (codes " did, " ++ (decimal away ++ (codes " are away, " ++ (decimal failed ++ (codes " failed, " ++ (decimal none ++ codes " have none")))))))
+
+abbrev pub seen_words : List Seen → List ℕ
+seen_words all = seen_line (count_by was_held all) (count_by was_away all) (count_by was_failed all) (count_by was_none all)
 
 -- Writes.
 
@@ -48,5 +52,9 @@ abbrev pub is_full : Why → Bool
 is_full why.Full = true
 is_full _ = false
 
-unfoldable pub why_words : List Why → List ℕ
-why_words all = codes "too few disks kept their part: " ++ (decimal (count_by is_kept all) ++ (codes " did, " ++ (decimal (count_by is_away all) ++ (codes " are away, " ++ (decimal (count_by is_failed all) ++ (codes " failed, " ++ (decimal (count_by is_full all) ++ codes " are full")))))))
+-- so many took their record, are away, failed, and are full
+unfoldable pub why_line : ℕ → ℕ → ℕ → ℕ → List ℕ
+why_line kept away failed full = codes "too few disks kept their part: " ++ (decimal kept ++ (codes " did, " ++ (decimal away ++ (codes " are away, " ++ (decimal failed ++ (codes " failed, " ++ (decimal full ++ codes " are full")))))))
+
+abbrev pub why_words : List Why → List ℕ
+why_words all = why_line (count_by is_kept all) (count_by is_away all) (count_by is_failed all) (count_by is_full all)

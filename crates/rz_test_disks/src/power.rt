@@ -30,6 +30,11 @@ impl Power {
         self.left.get() == 0
     }
 
+    /// It goes at the call with this number from now on, counted from 0.
+    pub fn cut_at(&self, call: u64) {
+        self.left.set(call.saturating_add(1));
+    }
+
     /// It comes back, for as long as can be counted.
     pub fn restore(&self) {
         self.left.set(u64::MAX);
