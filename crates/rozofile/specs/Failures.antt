@@ -58,7 +58,7 @@ write_words write.Disturbed = others_words
 write_words (write.Stopped why) = stop_words why
 
 -- what is wrong at a byte of a file
-unfoldable pub byte_words : List ℕ → ℕ → List ℕ → List ℕ
+abbrev pub byte_words : List ℕ → ℕ → List ℕ → List ℕ
 byte_words path offset words = path ++ (codes ": at byte " ++ (decimal offset ++ (codes ": " ++ words)))
 
 -- why a node is away

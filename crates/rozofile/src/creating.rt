@@ -74,7 +74,8 @@ fn new_disks<'a>(
 {
     let mut disks = Vec::with_capacity(rt.alloc(), paths.len())?;
     for path in paths {
-        disks.push(FileDisk::new(rt, rt.alloc(), path.as_str())?)?;
+        let disk = FileDisk::new(rt, rt.alloc(), path.as_str())?;
+        disks.push(disk)?;
     }
     Ok(disks)
 }

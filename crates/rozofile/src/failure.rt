@@ -1,6 +1,6 @@
 //! Why a command was not done, in words.
 
-ghost use Rattle.std.specs.Prelude.{◌≡◌, ◌++◌, IfOk, codes, string_bytes};
+ghost use Rattle.std.specs.Prelude.{ℕ, List, ◌≡◌, ◌++◌, IfOk, codes, string_bytes};
 ghost use Rattle.rz_store_words.specs.Causes.{journal_words};
 ghost use Rattle.rozofile.specs.Failures.{Tells, byte_words, name_words, others_words, read_words, stop_words, write_words};
 
@@ -26,7 +26,7 @@ impl From<AllocError> for Failure {
 
 /// The failure with a text.
 pub fn refused(text: Result<String, AllocError>) -> Failure
-    ensures { IfOk text (λ t. Tells result (string_bytes t)) }
+    ensures { (words : List ℕ) → IfOk text (λ t. string_bytes t ≡ words) → Tells result words }
 {
     match text {
         Ok(text) => Failure::Refused(text),
@@ -37,6 +37,13 @@ pub fn refused(text: Result<String, AllocError>) -> Failure
 /// The failure of a call of the system on a file.
 pub fn of_file(alloc: Global, path: &str, error: &io::Error) -> Failure {
     refused(format!(in alloc; "{path}: {error}"))
+}
+
+/// What is wrong with a file.
+fn of_words(alloc: Global, path: &str, words: &str) -> Failure
+    ensures { Tells result (path.now ++ (codes ": " ++ words.now)) }
+{
+    refused(format!(in alloc; "{path}: {words}"))
 }
 
 /// What stops whatever is asked.
@@ -73,7 +80,7 @@ pub fn of_name(alloc: Global, path: &str, fault: NameFault) -> Failure
     ensures { Tells result (path.now ++ (codes ": " ++ name_words fault)) }
 {
     let words = name_words(fault);
-    refused(format!(in alloc; "{path}: {words}"))
+    of_words(alloc, path, words)
 }
 
 /// Why the journal of a store does not open.
@@ -81,7 +88,7 @@ pub fn of_journal(alloc: Global, path: &str, fault: JournalFault) -> Failure
     ensures { Tells result (path.now ++ (codes ": " ++ journal_words fault)) }
 {
     let words = journal_words(fault);
-    refused(format!(in alloc; "{path}: {words}"))
+    of_words(alloc, path, words)
 }
 
 /// Why a block was not read, in new memory.
@@ -116,13 +123,9 @@ fn write_words(alloc: Global, fault: &WriteFault) -> Result<String, AllocError>
 }
 
 /// What is wrong at a byte of a file.
-fn at_byte(alloc: Global, path: &str, offset: u64, words: Result<String, AllocError>) -> Failure
-    ensures { IfOk words (λ t. Tells result (byte_words path.now offset (string_bytes t))) }
+fn of_byte(alloc: Global, path: &str, offset: u64, words: &str) -> Failure
+    ensures { Tells result (byte_words path.now offset words.now) }
 {
-    let Ok(words) = words else {
-        return Failure::NoMemory;
-    };
-    let words = words.as_str();
     refused(format!(in alloc; "{path}: at byte {offset}: {words}"))
 }
 
@@ -130,12 +133,24 @@ fn at_byte(alloc: Global, path: &str, offset: u64, words: Result<String, AllocEr
 pub fn of_read(alloc: Global, path: &str, offset: u64, fault: &ReadFault) -> Failure
     ensures { Tells result (byte_words path.now offset (read_words fault.now)) }
 {
-    at_byte(alloc, path, offset, read_words(alloc, fault))
+    match read_words(alloc, fault) {
+        Ok(words) => {
+            let text = words.as_str();
+            of_byte(alloc, path, offset, text)
+        }
+        Err(_) => Failure::NoMemory,
+    }
 }
 
 /// Why the byte at an offset of a file was not written.
 pub fn of_write(alloc: Global, path: &str, offset: u64, fault: &WriteFault) -> Failure
     ensures { Tells result (byte_words path.now offset (write_words fault.now)) }
 {
-    at_byte(alloc, path, offset, write_words(alloc, fault))
+    match write_words(alloc, fault) {
+        Ok(words) => {
+            let text = words.as_str();
+            of_byte(alloc, path, offset, text)
+        }
+        Err(_) => Failure::NoMemory,
+    }
 }

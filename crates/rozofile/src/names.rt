@@ -1,10 +1,10 @@
 //! Names are shown and changed.
 
-ghost use Rattle.std.specs.Prelude.{◌≡◌, IfOk, OnErr, OnOk, string_bytes};
+ghost use Rattle.std.specs.Prelude.{◌≡◌, OnErr, OnOk};
 ghost use Rattle.rz_events.specs.declared.tree.TreeCall.TheVariants as c;
 ghost use Rattle.rz_events.specs.declared.tree.TreeReply.TheVariants as r;
 ghost use Rattle.rz_store.specs.Store.{IfLegal, IsCalled, LooksSame};
-ghost use Rattle.rozofile.specs.Names.{IsMade, IsMoved, IsRemoved, joined};
+ghost use Rattle.rozofile.specs.Names.{IsMade, IsMoved, IsRemoved};
 
 use crate::failure::{Failure, of_name};
 use crate::printing::print;
@@ -18,9 +18,7 @@ use std::alloc::{AllocError, Global};
 use std::sync::Wait;
 
 /// The path of a name in a directory.
-pub fn joined(alloc: Global, path: &str, name: &str) -> Result<String, AllocError>
-    ensures { IfOk result (λ t. string_bytes t ≡ joined path.now name.now) }
-{
+pub fn joined(alloc: Global, path: &str, name: &str) -> Result<String, AllocError> {
     if path == "/" {
         return format!(in alloc; "/{name}");
     }

@@ -109,7 +109,8 @@ pub fn open_disks<'a>(
 {
     let mut disks = Vec::with_capacity(rt.alloc(), paths.len())?;
     for path in paths {
-        disks.push(open_disk(rt, path.as_str())?)?;
+        let disk = open_disk(rt, path.as_str())?;
+        disks.push(disk)?;
     }
     Ok(disks)
 }
