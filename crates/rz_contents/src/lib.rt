@@ -12,6 +12,8 @@
 //! - [`put_alone`], [`get_alone`], [`rebuild_alone`]: what one operation makes of the store where nobody acts
 //!   beside it. A put changes exactly its block, and nothing if it is not acknowledged; a get and a rebuild
 //!   change nothing.
+//! - [`rebuild_still`], [`rebuild_whole`]: no event of a rebuild may change what users see, and a node that was
+//!   rebuilt with no block left holds all that it has to hold.
 //! - [`removed`]: a file whose last name went stays gone.
 //! - [`writes_patch`], [`writes_together`], [`reads_text`], [`reads_together`]: ranges of bytes. A block's
 //!   text that is put with some bytes patched in writes exactly these bytes of its file, and what a block's
@@ -35,7 +37,7 @@ ghost use Rattle.rz_contents.specs.Contents.{ChangesByPublish, StaysUnpublished,
 ghost use Rattle.rz_contents.specs.Model.{AreNames, StaysStill};
 ghost use Rattle.rz_contents.specs.Putting.{IsPutAlone};
 ghost use Rattle.rz_contents.specs.Getting.{IsGetAlone};
-ghost use Rattle.rz_contents.specs.Mending.{IsRebuildAlone};
+ghost use Rattle.rz_contents.specs.Mending.{AreRebuildsStill, IsRebuildAlone, IsRebuildWhole};
 ghost use Rattle.rz_contents.specs.Removing.{StaysGone};
 ghost use Rattle.rz_contents.specs.Files.{LeadsToBlock, IsPutWatched, IsGetWatched, IsCallWatched};
 ghost use Rattle.rz_contents.specs.Causes.{ArePutsCaused, AreGetsCaused};
@@ -95,6 +97,20 @@ pub fn get_alone()
 pub fn rebuild_alone()
     ensures { (v : Volume) → IsRebuildAlone v }
 {}
+
+/// No event of a rebuild may change what users see.
+pub fn rebuild_still()
+    ensures { AreRebuildsStill }
+{}
+
+/// A node whose rebuild says that it left no block, and beside which nobody acted, holds the published record of
+/// each block that it has to hold.
+pub fn rebuild_whole()
+    ensures { (v : Volume) → IsRebuildWhole v }
+{
+    rz_safety::complete();
+    rz_safety::rebuilt();
+}
 
 /// A file whose last name went stays gone: its number is not given again, and no block of it is looked up,
 /// begun, published or listed.

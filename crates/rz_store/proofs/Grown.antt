@@ -6,7 +6,7 @@ use Rattle.std.specs.FinMap.{same_map, nat_cmp-IsAntisymmetric}
 use Rattle.std.specs.Ordering.{nat_cmp, is_lt, eq_by_cmp}
 use Rattle.std.specs.declared.cmp.Ordering.TheVariants.{Greater}
 use Rattle.std.specs.Cmp.{nat_cmp_total, nat_cmp_is, unsigned_tied}
-use Rattle.std.proofs.lemmas.Bool.{eq-eqb, cases_lt}
+use Rattle.std.proofs.lemmas.Bool.{eq-eqb, eqb-true, cases_lt}
 use Rattle.std.proofs.lemmas.Option.{same_Some}
 use Rattle.std.proofs.lemmas.Map.Keys.{ge_from_not_lt}
 use Rattle.rz_export_model.specs.Paths.{Path}
@@ -102,6 +102,26 @@ grown-within t fid a b within = ap (λ (m : Objects). record t { objects = m }) 
         there-grown t.objects fid a o is
         ∙ ap (λ (n : ℕ). maps.insert t.objects fid (record o { size = n })) (top-low o.size a low.0 ∙ sym (top-low o.size b low.1))
         ∙ sym (there-grown t.objects fid b o is)
+
+insert-again : (m : Objects) (k : ℕ) (x : Object) → maps.get m k ≡ Some x → maps.insert m k x ≡ m
+insert-again m k x is =
+    same_map nat_cmp_total nat_cmp-IsAntisymmetric (maps.insert m k x) m
+    (λ (q : ℕ). maps.get-insert nat_cmp_total m k x q ∙ either q (eq_by_cmp nat_cmp q k) refl)
+  where
+    either : (q : ℕ) (b : Bool) → eq_by_cmp nat_cmp q k ≡ b → cond b (Some x) (maps.get m q) ≡ maps.get m q
+    either q true one = sym (ap (maps.get m) (eqb-true q k (sym (unsigned_tied q k) ∙ one)) ∙ is)
+    either q false other = refl
+
+-- one that reaches so far already does not grow
+pub grown-still : (t : Tree) (fid a : ℕ) → ((o : Object) → maps.get t.objects fid ≡ Some o → a ≤ o.size) → grown t fid a ≡ t
+grown-still t fid a within = ap (λ (m : Objects). record t { objects = m }) (go (maps.get t.objects fid) refl)
+  where
+    go : (p : Option Object) → maps.get t.objects fid ≡ p → objects_grown t.objects fid a ≡ t.objects
+    go None is = none-grown t.objects fid a is
+    go (Some o) is =
+        there-grown t.objects fid a o is
+        ∙ ap (λ (n : ℕ). maps.insert t.objects fid (record o { size = n })) (top-low o.size a (within o is))
+        ∙ insert-again t.objects fid o is
 
 -- What stands at a path.
 

@@ -21,6 +21,7 @@ use Rattle.rz_restart_laws.specs.Earlier.{numbers}
 use Rattle.rz_restart_laws.specs.Returns.{NewDisk, HasNewDisks, replaced, replaced_if}
 use Rattle.rz_contents.specs.Contents.{text_of}
 use Rattle.rz_contents.specs.Model.{IsSame, model_of}
+use Rattle.rz_shared_locked.specs.LockedExports.{AreTextsOfBytes}
 use Rattle.rz_store_opening.specs.Opening.{AreLeft, MayStand}
 use Rattle.rz_store_turns.specs.Closed.{IsDiskLeft, IsJournalLeft}
 use Rattle.rz_store.specs.Opened.{MayOpenAgain}
@@ -62,17 +63,17 @@ module _ {D : Type 0} (image : D → List ℕ → Type 0) (v : Volume) (h mid : 
   may-all (s ∷ specs) [] there left = left
   may-all (s ∷ specs) (d ∷ ds) there left = (may-one s d there.0 left.0, may-all specs ds there.1 left.1)
 
-pub are-left : {D : Type 0} (image : D → List ℕ → Type 0) (v : Volume) (h : List Event) (new : ℕ → NewDisk) (disks : List (Option D)) (journal : D) → IsLegalInRuns v h → MayOpenAgain v h
+pub are-left : {D : Type 0} (image : D → List ℕ → Type 0) (v : Volume) (h : List Event) (new : ℕ → NewDisk) (disks : List (Option D)) (journal : D) → IsLegalInRuns v h → AreTextsOfBytes h → MayOpenAgain v h
     → AllZip (IsDiskLeft image v h) (nodes_of v.clusters) disks → AllTextsOf v (image journal) (changing_calls h) → AreLeft image v h new disks journal
-are-left image v h new disks journal legal may left last = record {
+are-left image v h new disks journal legal bytes may left last = record {
   earlier = record { legal = legal; few = may.few; enrolled = λ n of lost. absurd (may.there n of lost) };
-  bytes = may.bytes;
+  bytes = bytes;
   nodes = may-all image v h (replaced new (numbers v) h) (none-replaced new (numbers v) h may.there) (nodes_of v.clusters) disks (all-there h (nodes_of v.clusters) may.there) left;
   last = last;
 }
 
-pub journal-left : {D : Type 0} (image : D → List ℕ → Type 0) (v : Volume) (h : List Event) (new : ℕ → NewDisk) (disks : List (Option D)) (journal : Option D) (why : Option JournalRefusal) → why ≡ None → IsLegalInRuns v h → MayOpenAgain v h
+pub journal-left : {D : Type 0} (image : D → List ℕ → Type 0) (v : Volume) (h : List Event) (new : ℕ → NewDisk) (disks : List (Option D)) (journal : Option D) (why : Option JournalRefusal) → why ≡ None → IsLegalInRuns v h → AreTextsOfBytes h → MayOpenAgain v h
     → AllZip (IsDiskLeft image v h) (nodes_of v.clusters) disks → IfSome journal (IsJournalLeft image v why (changing_calls h)) → IfSome journal (AreLeft image v h new disks)
-journal-left image v h new disks None why none legal may left last = tt
-journal-left image v h new disks (Some d) why none legal may left last =
-    are-left image v h new disks d legal may left (subst (λ (w : Option JournalRefusal). IsJournalLeft image v w (changing_calls h) d) none last)
+journal-left image v h new disks None why none legal bytes may left last = tt
+journal-left image v h new disks (Some d) why none legal bytes may left last =
+    are-left image v h new disks d legal bytes may left (subst (λ (w : Option JournalRefusal). IsJournalLeft image v w (changing_calls h) d) none last)

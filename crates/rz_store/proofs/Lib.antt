@@ -10,3 +10,8 @@ pub mod Opens
 pub mod Writing
 pub mod Reading
 pub mod LeftDisks
+pub mod Found
+pub mod Mended
+pub mod Tending
+pub mod Renewed
+pub mod Published

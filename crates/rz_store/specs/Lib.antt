@@ -3,3 +3,4 @@ pub mod Causes
 pub mod Outcomes
 pub mod Names
 pub mod Opened
+pub mod Nodes

@@ -9,15 +9,13 @@ use Rattle.rz_core.specs.History.{of_word}
 use Rattle.rz_core.specs.NodeRows.{IsNodeOf}
 use Rattle.rz_core.specs.NodeWord.{phase}
 use Rattle.rz_restart_laws.specs.Returns.{NewDisk}
-use Rattle.rz_shared_locked.specs.LockedExports.{AreTextsOfBytes}
 use Rattle.rz_store_opening.specs.declared.disks.OpenedDisks.{OpenedDisks}
 use Rattle.rz_store_opening.specs.Opening.{GoesOnAfter, reopened}
 use Rattle.rz_contents.specs.Model.{IsSame, model_of}
 
--- A store may be opened again after the log: no node is lost, texts are of bytes, and there is room for the events of an opening.
+-- A store may be opened again after the log: no node is lost, and there is room for the events of an opening.
 pub record MayOpenAgain (v : Volume) (h : List Event) : Type 0 where
   pub there : (n : ℕ) → IsNodeOf v n → phase (of_word (Node n) h) ≢ Lost
-  pub bytes : AreTextsOfBytes h
   pub few : length h + 256 < 2 ^ 63
 
 -- What was opened after a log goes on in one after which users see the same.

@@ -1,12 +1,14 @@
 -- A store as its users see it, and what its calls make of it.
-use Rattle.std.specs.Prelude.{ℕ, ◌≡◌, ◌<◌, ◌≤◌, ◌+◌, ◌-◌, IsTrue, List, take, length, min, Option}
+use Rattle.std.specs.Prelude.{ℕ, ◌≡◌, ◌⊎◌, ◌<◌, ◌≤◌, ◌+◌, ◌-◌, IsTrue, List, ◌++◌, take, length, min, Option, None}
 use Rattle.rz_events.specs.Volume.{Volume}
+use Rattle.rz_events.specs.declared.keys.Key.{Key}
 use Rattle.rz_events.specs.declared.ends.WriteEnd.TheVariants as write
 use Rattle.rz_events.specs.declared.tree.TreeCall.{TreeCall}
 use Rattle.rz_events.specs.declared.tree.TreeReply.{TreeReply}
 use Rattle.rz_events.specs.declared.events.Event.{Event}
 use Rattle.rz_export_model.specs.Tree.{Found, grown}
 use Rattle.rz_chronicle.specs.Kinds.{keeps_legal}
+use Rattle.rz_contents.specs.Contents.{IsUnpublished}
 use Rattle.rz_contents.specs.Model.{Model, model_of, IsSame}
 use Rattle.rz_contents.specs.Putting.{model_put}
 use Rattle.rz_contents.specs.Files as files
@@ -46,6 +48,22 @@ pub record HasGot (s : StoreView) (path : List ℕ) (block : ℕ) (text : Option
   pub file : Found
   pub at : IsFileAt (model_in s).names path file
   pub got : (model_in s).blocks (key_in file block) ≡ text
+
+-- the log went on, and a publish of the block was accepted since
+abbrev pub WasPublished : Key → StoreView → StoreView → Type 0
+WasPublished key old new = (more : List Event) × (new.log ≡ more ++ old.log) × ¬ IsUnpublished key more
+
+-- the block of the file at the path was written since
+pub record HasPublished (old : StoreView) (path : List ℕ) (block : ℕ) (new : StoreView) : Type 0 where
+  pub file : Found
+  pub at : IsFileAt (model_in old).names path file
+  pub published : WasPublished (key_in file block) old new
+
+-- The block of the file at the path was written anew, or it contains nothing.
+pub record HasRenewed (old : StoreView) (path : List ℕ) (block : ℕ) (new : StoreView) : Type 0 where
+  pub file : Found
+  pub at : IsFileAt (model_in old).names path file
+  pub renewed : WasPublished (key_in file block) old new ⊎ ((model_in old).blocks (key_in file block) ≡ None)
 
 -- Ranges.
 

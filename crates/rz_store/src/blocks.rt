@@ -6,8 +6,8 @@ ghost use Rattle.rz_events.specs.declared.operations.Operation.TheVariants as op
 ghost use Rattle.rz_operation.specs.Machine.{text_of};
 ghost use Rattle.rz_operation_model.specs.Ask.{ask_of};
 ghost use Rattle.rz_chronicle.specs.Keys.{IsLater};
-ghost use Rattle.rz_store.specs.Store.{IfLegal, LooksSame, HasPut, HasGot};
-ghost use Rattle.rz_store.specs.Causes.{IsReadCause, IsWriteCause};
+ghost use Rattle.rz_store.specs.Store.{IfLegal, LooksSame, HasPut, HasPublished, HasRenewed, HasGot};
+ghost use Rattle.rz_store.specs.Causes.{IsReadCause, IsWriteCause, WasCause};
 ghost use Rattle.rz_store.specs.Outcomes.{end_told, put_told, write_denied, read_denied, told_by, IsGetTold};
 
 use crate::faults::{ReadFault, WriteFault};
@@ -130,6 +130,7 @@ impl<D: Disk, J: Metering> Store<D, J> {
         requires short { length bytes.now ≤ block_bytes_of self.old.volume.layout }
         ensures done { OnOk result (IfLegal J.kind (HasPut self.old path.now block bytes.now self.new)) }
         ensures kept { OnErr result (IfLegal J.kind (LooksSame self.old self.new)) }
+        ensures published { OnOk result (IfLegal J.kind (HasPublished self.old path.now block self.new)) }
         ensures cause { IfErr result (λ f. IfLegal J.kind (IsWriteCause self.old path.now block f)) }
         ensures later { IfLegal J.kind (IsLater self.old.log self.new.log) }
         ensures volume { self.new.volume ≡ self.old.volume }
@@ -178,5 +179,27 @@ impl<D: Disk, J: Metering> Store<D, J> {
         let told = get_told(self.sole.alloc(), &machine);
         self.sole.conclude(rt, machine)?;
         told
+    }
+
+    /// Writes a block of the file at a path anew, with the text that it contains: each node that is up and is to have
+    /// a record of it gets one. A block that contains none is left. Users see no difference.
+    pub fn repair<R: Wait>(&mut self, rt: &R, path: &str, block: u64) -> Result<(), WriteFault>
+        ensures done { OnOk result (IfLegal J.kind (HasRenewed self.old path.now block self.new)) }
+        ensures same { IfLegal J.kind (LooksSame self.old self.new) }
+        ensures cause { IfErr result (λ f. IfLegal J.kind (WasCause (λ s. IsWriteCause s path.now block f) self.old self.new)) }
+        ensures later { IfLegal J.kind (IsLater self.old.log self.new.log) }
+        ensures volume { self.new.volume ≡ self.old.volume }
+    {
+        rz_contents::covered();
+        self.sole.stands();
+        let size = self.sole.layout().block_bytes();
+        let Some(text) = self.get(rt, path, block)? else {
+            return Ok(());
+        };
+        let bytes = text.bytes();
+        if bytes.len() > size {
+            return Err(WriteFault::Disturbed);
+        }
+        self.put(rt, path, block, bytes)
     }
 }

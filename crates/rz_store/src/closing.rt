@@ -1,11 +1,11 @@
 //! A store is let go.
-ghost use Rattle.std.specs.Prelude.{◌≡◌, ℕ, None, IsTrue, IfSome, length};
+ghost use Rattle.std.specs.Prelude.{◌≡◌, ℕ, None, is_some, IsTrue, IfSome, length};
 ghost use Rattle.std.specs.List.{AllZip};
 ghost use Rattle.rz_events.specs.Volume.{nodes_of};
 ghost use Rattle.rz_restart_laws.specs.Calls.{changing_calls};
 ghost use Rattle.rz_restart_laws.specs.Returns.{NewDisk};
 ghost use Rattle.rz_store_opening.specs.Opening.{AreLeft};
-ghost use Rattle.rz_store_turns.specs.Closed.{IsDiskLeft, IsJournalLeft};
+ghost use Rattle.rz_store_turns.specs.Closed.{IsDiskHere, IsDiskLeft, IsJournalLeft};
 ghost use Rattle.rz_store.specs.Opened.{MayOpenAgain};
 ghost use Rattle.rz_store.specs.Store.{IfLegal};
 
@@ -31,6 +31,10 @@ impl<D: Disk, J: Metering> Store<D, J> {
         ensures count { length result.disks.items ≡ length (nodes_of self.volume.clusters) }
         ensures disks { IfLegal J.kind (AllZip (IsDiskLeft D.image self.volume self.log) (nodes_of self.volume.clusters) result.disks.items) }
         ensures journal { IfLegal J.kind (IsTrue D.tells → IfSome result.journal (IsJournalLeft D.image self.volume result.refusal (changing_calls self.log))) }
+
+        // The disk of each node that is up comes back, and that of the journal, if there is one.
+        ensures here { IfLegal J.kind (AllZip (IsDiskHere self.log) (nodes_of self.volume.clusters) result.disks.items) }
+        ensures journaled { is_some result.journal ≡ is_some J.journal }
 
         // Where the journal refused nothing, the store may be opened again.
         ensures left { IfLegal J.kind (IsTrue D.tells → result.refusal ≡ None → MayOpenAgain self.volume self.log → (new : ℕ → NewDisk) → IfSome result.journal (AreLeft D.image self.volume self.log new result.disks.items)) }

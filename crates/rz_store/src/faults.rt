@@ -1,6 +1,6 @@
 //! Why a call does not do what it is asked.
 
-use rz_events::{Seen, TreeFault, Why};
+use rz_events::{OpenFault, RebuildEnd, Seen, TreeFault, Why};
 use rz_store_turns::Stop;
 use std::alloc::AllocError;
 
@@ -46,6 +46,34 @@ pub enum WriteFault {
     /// Somebody else wrote the block, or the answer was none to the call.
     Disturbed,
     Stopped(Stop),
+}
+
+/// Why a node is not started. Users see no difference.
+#[derive(Clone, Copy, Drop)]
+pub enum StartFault {
+    /// The volume has no node of this number.
+    NoSuchNode,
+    /// It is up, or its disk is lost.
+    NotDown,
+    /// Its disk is away, or does not open.
+    Unopened(OpenFault),
+    NoMemory,
+}
+
+/// Why a node has no new disk with all that it is to hold. Users see no difference.
+#[derive(Clone, Copy, Drop)]
+pub enum ReplaceFault {
+    /// The volume has no node of this number. The new disk comes back.
+    NoSuchNode,
+    /// It lost 2^64 - 1 disks, the most that can be counted. The new disk comes back.
+    LossesSpent,
+    /// Memory was wanting before anything was done. The new disk comes back.
+    NoMemory,
+    /// The node lost its disk, and the new one is in its place, but its rebuild was stopped. Another replacement
+    /// begins anew.
+    Stopped(Stop),
+    /// So it is, but the rebuild ended so.
+    Ended(RebuildEnd),
 }
 
 impl From<Stop> for NameFault {

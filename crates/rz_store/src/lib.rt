@@ -6,19 +6,21 @@
 //! answers gives exactly the bytes that are there, and each refusal says why. Memory or the journal may be wanting at
 //! any time. That a call returns is not said.
 //!
-//! In reading order: `faults`, `store`, `opening`, `blocks`, `names`, `texts`, `ranges`, `closing`.
+//! In reading order: `faults`, `store`, `opening`, `blocks`, `names`, `texts`, `ranges`, `nodes`, `closing`.
 #![tactic(auto)]
 
 mod blocks;
 mod closing;
 mod faults;
 mod names;
+mod nodes;
 mod opening;
 mod ranges;
 mod store;
 mod texts;
 
-pub use faults::{NameFault, ReadFault, WriteFault};
+pub use faults::{NameFault, ReadFault, ReplaceFault, StartFault, WriteFault};
+pub use nodes::{JournalRoom, NodeRoom, Rebuilt};
 pub use opening::seen_again;
 pub use ranges::ShortWrite;
 pub use rz_store_turns::{ClosedStore, Stop};

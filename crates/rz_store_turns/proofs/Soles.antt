@@ -1,6 +1,5 @@
 -- Who has no operation open.
-use Rattle.std.proofs.Common.{ℕ, true, false, inl, inr, ◌≡◌, ◌+◌, ◌≤◌, ◌<◌, List, [], ◌++◌, length, take, drop, refl, sym, ◌∙◌, ap, subst, arith, length-append}
-use Rattle.std.specs.Prelude.{IsTrue}
+use Rattle.std.proofs.Common.{ℕ, true, inl, inr, ◌≡◌, ◌+◌, ◌≤◌, List, [], ◌++◌, length, take, drop, refl, sym, ◌∙◌, ap, subst, arith, length-append}
 use Rattle.std.proofs.lemmas.Bool.{cases_lt}
 use Rattle.std.proofs.lemmas.List.{length-take, length-drop}
 use Rattle.rz_events.specs.declared.keys.Actor.{Actor}
@@ -19,7 +18,7 @@ use Rattle.rz_core.specs.Own.{IsBetween}
 use Rattle.rz_play_laws.specs.Own.{IsOwnOf}
 use Rattle.rz_block_laws.specs.ActingLaws.{MayDo}
 use Rattle.rz_chronicle.specs.Holds.{HasAllActors, Stays}
-use Rattle.rz_chronicle.specs.Kinds.{HavePlaces, keeps_legal, volume_in}
+use Rattle.rz_chronicle.specs.Kinds.{HavePlaces, volume_in}
 use Rattle.rz_chronicle.specs.Keys.{IsLater}
 use Rattle.rz_chronicle.specs.Laws.{IsAddedAlone}
 use Rattle.rz_chronicle.specs.Rules.{PassView}
@@ -30,6 +29,13 @@ use Rattle.rz_store_turns.specs.Runs.{GoesAlone}
 -- with the tokens of all actors in hand nothing was added while the pass was turned to another one
 pub unmoved : (kind ks : List ℕ) (old new : List Event) → IsAddedAlone → HoldsAll ks → HavePlaces kind new → IsLater old new → Stays ks old new → new ≡ old
 unmoved kind ks old new alone all places later stays = alone kind ks old new (λ a member. (all a member).0) places later stays
+
+-- so the pass is as it was
+pub same-pass : (p q : PassView) → (q.actor ≡ p.actor) × (q.keys ≡ p.keys) → q.log ≡ p.log → q ≡ p
+same-pass p q same log =
+    ap (λ (a : Actor). record { actor = a; log = q.log; keys = q.keys }) same.0
+    ∙ ap (λ (ks : List ℕ). record { actor = p.actor; log = q.log; keys = ks }) same.1
+    ∙ ap (λ (h : List Event). record { actor = p.actor; log = h; keys = p.keys }) log
 
 -- at first nobody has one open
 pub none-open : (client rebuilder : ℕ) → AreFree [] client rebuilder

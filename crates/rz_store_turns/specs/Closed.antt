@@ -1,9 +1,9 @@
 -- What stands on the disks of a store that is let go. `h` is the log of all its runs, which has the newest event first.
-use Rattle.std.specs.Prelude.{ℕ, ◌≡◌, ◌≢◌, ◌⊎◌, ◌++◌, IsTrue, List, [], ◌∷◌, Option, Some, None, IfSome}
+use Rattle.std.specs.Prelude.{ℕ, ◌≡◌, ◌≢◌, ◌⊎◌, ◌++◌, IsTrue, List, [], ◌∷◌, Option, Some, None, IfSome, IsSome}
 use Rattle.rz_events.specs.Volume.{Volume}
 use Rattle.rz_events.specs.declared.export.Call.{Call}
 use Rattle.rz_events.specs.declared.files.NodeSpec.{NodeSpec}
-use Rattle.rz_events.specs.declared.nodes.Phase.TheVariants.{Lost}
+use Rattle.rz_events.specs.declared.nodes.Phase.TheVariants.{Up, Lost}
 use Rattle.rz_events.specs.declared.events.Word.TheVariants.{Node}
 use Rattle.rz_events.specs.declared.events.Event.{Event}
 use Rattle.rz_core.specs.History.{of_word}
@@ -19,9 +19,13 @@ use Rattle.rz_restart_laws.specs.Found.{StandsByLog}
 abbrev pub IsDiskLeft : {D : Type 0} → (D → List ℕ → Type 0) → Volume → List Event → NodeSpec → Option D → Type 0
 IsDiskLeft image v h spec disk = IfSome disk (λ d. phase (of_word (Node spec.sid) h) ≢ Lost → (text : List ℕ) → image d text → StandsByLog v h spec.sid text)
 
--- The journal's disk: each image stands for these calls. Behind a journal that refused one more, it is in some volume, and where the disk
--- failed the image may have that one too.
+-- The disk of a node that is up is here.
+abbrev pub IsDiskHere : {D : Type 0} → List Event → NodeSpec → Option D → Type 0
+IsDiskHere h spec disk = phase (of_word (Node spec.sid) h) ≡ Up → IsSome disk
+
+-- The journal's disk: each image stands for these calls. Where a journal refused one more since its disk failed, the image may have
+-- that one too.
 abbrev pub IsJournalLeft : {D : Type 0} → (D → List ℕ → Type 0) → Volume → Option JournalRefusal → List Call → D → Type 0
 IsJournalLeft image v None calls d = AllTextsOf v (image d) calls
-IsJournalLeft image v (Some Full) calls d = (some : Volume) × AllTextsOf some (image d) calls
-IsJournalLeft image v (Some Failed) calls d = (some : Volume) × (refused : Call) × ((text : List ℕ) → image d text → IsTextOf some text calls ⊎ IsTextOf some text (calls ++ refused ∷ []))
+IsJournalLeft image v (Some Full) calls d = AllTextsOf v (image d) calls
+IsJournalLeft image v (Some Failed) calls d = (refused : Call) × ((text : List ℕ) → image d text → IsTextOf v text calls ⊎ IsTextOf v text (calls ++ refused ∷ []))

@@ -3,7 +3,7 @@ use Rattle.std.specs.Prelude.{ℕ, true, false, ◌≡◌, IsTrue, List, ◌∷�
 use Rattle.rz_events.specs.declared.operations.Operation.{Operation}
 use Rattle.rz_events.specs.declared.events.Event.{Event}
 use Rattle.rz_operation.specs.Machine.{Machine, text_of}
-use Rattle.rz_operation_model.specs.Ask.{Ask, Say, Saying, ask_of}
+use Rattle.rz_operation_model.specs.Ask.{Ask, Saying}
 use Rattle.rz_operation_model.specs.Work.{Work}
 use Rattle.rz_operation_model.specs.Steps.{begun}
 use Rattle.rz_operation_model.specs.Turns.{said_event}

@@ -3,7 +3,11 @@ ghost use Rattle.std.specs.Prelude.{◌≡◌, true, IfOk, OnOk, OnErr, IsTrue};
 ghost use Rattle.rz_events.specs.declared.keys.Actor.TheVariants as a;
 ghost use Rattle.rz_operation_model.specs.Ask.{ask_of, Say, Saying as ASaying};
 ghost use Rattle.rz_operation_model.specs.Steps.{begun};
+ghost use Rattle.rz_core.specs.History.{of_actor};
+ghost use Rattle.rz_core.specs.Own.{IsBetween};
+ghost use Rattle.rz_block_laws.specs.Acting.{IsActing};
 ghost use Rattle.rz_block_laws.specs.ActingLaws.{MayDo};
+ghost use Rattle.rz_chronicle.specs.Keys.{IsMember};
 ghost use Rattle.rz_chronicle.specs.Kinds.{keeps_legal, volume_in};
 ghost use Rattle.rz_contents.specs.Files.{is_word};
 ghost use Rattle.rz_store_turns.specs.Sole.{IsInHand, IsSameTurn};
@@ -26,6 +30,30 @@ pub struct Performed {
 }
 
 impl<D: Disk, J: Metering> Sole<D, J> {
+    // Takes up an operation as an actor that has none open.
+    pub(crate) fn take_up(&mut self, by: Actor, op: Operation) -> Result<Machine, Stop>
+        requires member { IsMember by }
+        requires may { MayDo (volume_in J.kind) by op }
+        requires idle { IsTrue (keeps_legal J.kind) → IsBetween (of_actor by self.old.pass.log) }
+        ensures log { self.new.pass.log ≡ self.old.pass.log }
+        ensures free { (self.new.client ≡ self.old.client) × (self.new.rebuilder ≡ self.old.rebuilder) }
+        ensures actor { IfOk result (λ m. self.new.pass.actor ≡ by) }
+        ensures begun { IfOk result (λ m. m.work ≡ begun op) }
+        ensures layout { IfOk result (λ m. m.layout ≡ (volume_in J.kind).layout) }
+        ensures right { IfOk result (λ m. IsTrue (keeps_legal J.kind) → IsActing (volume_in J.kind) J.earlier self.new.pass.log by self.new.number m) }
+    {
+        rz_block_laws::acting::begins();
+        rz_chronicle::added_alone();
+        let layout = self.shared.layout();
+        let Ok(machine) = Machine::start(self.alloc, layout, op) else {
+            return Err(Stop::NoMemory);
+        };
+        self.shared.book.turn_to(&mut self.pass, by);
+        let _by = self.pass.actor();
+        self.number = self.number.wrapping_add(1);
+        Ok(machine)
+    }
+
     // Takes up an operation of a client, as the least one that has none open.
     fn begin(&mut self, op: Operation) -> Result<Machine, Stop>
         requires may { MayDo (volume_in J.kind) (a.Client 1) op }
@@ -33,29 +61,22 @@ impl<D: Disk, J: Metering> Sole<D, J> {
         ensures begun { IfOk result (λ m. m.work ≡ begun op) }
         ensures hand { IfOk result (λ m. IsInHand J.kind J.earlier self.new m) }
     {
-        rz_block_laws::acting::begins();
-        rz_chronicle::added_alone();
         if self.client > 64 {
             drop(op);
             return Err(Stop::Spent);
         }
-        let layout = self.shared.layout();
-        let Ok(machine) = Machine::start(self.alloc, layout, op) else {
-            return Err(Stop::NoMemory);
-        };
         let by = Actor::Client(self.client);
-        self.shared.book.turn_to(&mut self.pass, by);
-        let _by = self.pass.actor();
+        let machine = self.take_up(by, op)?;
         self.client += 1;
-        self.number = self.number.wrapping_add(1);
         Ok(machine)
     }
 
     // Takes one turn. Where it is stopped nothing is added over a book that keeps its log legal.
-    fn turn<R: Wait>(&mut self, rt: &R, machine: &mut Machine) -> Result<(), Stop>
+    pub(crate) fn turn<R: Wait>(&mut self, rt: &R, machine: &mut Machine) -> Result<(), Stop>
         requires hand { IsInHand J.kind J.earlier self.old machine.old }
         ensures same { IsSameTurn self.old self.new }
         ensures turned { OnOk result (HasTurned J.kind self.old.number self.old.pass self.new.pass machine.old machine.new) }
+        ensures stopped { OnErr result (HasRun J.kind self.old.number self.old.pass self.new.pass machine.old machine.new) }
         ensures hand { IsInHand J.kind J.earlier self.new machine.new }
         ensures still { OnErr result (IsTrue (keeps_legal J.kind) → self.new.pass.log ≡ self.old.pass.log) }
     {
@@ -74,7 +95,7 @@ impl<D: Disk, J: Metering> Sole<D, J> {
     }
 
     // Takes turns until the operation is about to say a word.
-    fn go_on<R: Wait>(&mut self, rt: &R, machine: &mut Machine) -> Option<Stop>
+    pub(crate) fn go_on<R: Wait>(&mut self, rt: &R, machine: &mut Machine) -> Option<Stop>
         requires hand { IsInHand J.kind J.earlier self.old machine.old }
         ensures same { IsSameTurn self.old self.new }
         ensures ran { HasRun J.kind self.old.number self.old.pass self.new.pass machine.old machine.new }

@@ -1,12 +1,12 @@
 //! Who acts alone lets the store go.
-ghost use Rattle.std.specs.Prelude.{◌≡◌, ◌++◌, IsTrue, IfSome, length};
+ghost use Rattle.std.specs.Prelude.{◌≡◌, ◌++◌, IsTrue, IfSome, is_some, length};
 ghost use Rattle.std.specs.List.{AllZip};
 ghost use Rattle.rz_events.specs.Volume.{nodes_of};
-ghost use Rattle.rz_metadata.specs.Stands.{refusal_of};
+ghost use Rattle.rz_metadata.specs.Stands.{export_in, is_journaled, refusal_of};
 ghost use Rattle.rz_restart_laws.specs.Calls.{changing_calls};
 ghost use Rattle.rz_chronicle.specs.Kinds.{keeps_legal, volume_in};
-ghost use Rattle.rz_shared_locked.specs.LockedExports.{AreMetadataOf, faults_of};
-ghost use Rattle.rz_store_turns.specs.Closed.{IsDiskLeft, IsJournalLeft};
+ghost use Rattle.rz_shared_locked.specs.LockedExports.{AreMetadataOf, AreTextsOfBytes, faults_of};
+ghost use Rattle.rz_store_turns.specs.Closed.{IsDiskHere, IsDiskLeft, IsJournalLeft};
 ghost use Rattle.rz_store_turns.specs.Sole.{HoldsAll};
 
 use crate::sole::Sole;
@@ -37,9 +37,14 @@ fn taken_apart<D: Disk, J: Metering>(
     requires tokens { HoldsAll pass.keys }
     ensures count { length result.0.items ≡ length (nodes_of (volume_in J.kind).clusters) }
     ensures disks { IsTrue (keeps_legal J.kind) → AllZip (IsDiskLeft D.image (volume_in J.kind) (pass.log ++ J.earlier)) (nodes_of (volume_in J.kind).clusters) result.0.items }
+    ensures here { IsTrue (keeps_legal J.kind) → AllZip (IsDiskHere (pass.log ++ J.earlier)) (nodes_of (volume_in J.kind).clusters) result.0.items }
+    ensures volume { (export_in result.1).volume ≡ volume_in J.kind }
+    ensures journal { is_journaled result.1 ≡ is_some J.journal }
+    ensures texts { IsTrue (keeps_legal J.kind) → AreTextsOfBytes (pass.log ++ J.earlier) }
     ensures metadata { AreMetadataOf (refusal_of result.1) D.tells D.meter D.image (faults_of J.journal) J.kind (pass.log ++ J.earlier) result.1 }
 {
     rz_chronicle::added_alone();
+    rz_chronicle::words_kept();
     let mut pass = pass;
     let Closed {
         disks,
@@ -52,14 +57,20 @@ fn taken_apart<D: Disk, J: Metering>(
 }
 
 impl<D: Disk, J: Metering> Sole<D, J> {
-    /// Lets the store go: the disks come back.
+    /// Lets the store go: the disks come back, that of each node that is up among them, and that of the journal, if
+    /// there is one.
     ///
     /// No device is called. What stands on the disks then stood there before, so it is also what a stop between
     /// any two calls leaves.
     pub fn close(self) -> ClosedStore<D>
         ensures count { length result.disks.items ≡ length (nodes_of (volume_in J.kind).clusters) }
         ensures disks { IsTrue (keeps_legal J.kind) → AllZip (IsDiskLeft D.image (volume_in J.kind) (self.pass.log ++ J.earlier)) (nodes_of (volume_in J.kind).clusters) result.disks.items }
+        ensures here { IsTrue (keeps_legal J.kind) → AllZip (IsDiskHere (self.pass.log ++ J.earlier)) (nodes_of (volume_in J.kind).clusters) result.disks.items }
+        ensures journaled { is_some result.journal ≡ is_some J.journal }
         ensures journal { IsTrue (keeps_legal J.kind) → IsTrue D.tells → IfSome result.journal (IsJournalLeft D.image (volume_in J.kind) result.refusal (changing_calls (self.pass.log ++ J.earlier))) }
+
+        // Each write of the log began with a text of bytes.
+        ensures texts { IsTrue (keeps_legal J.kind) → AreTextsOfBytes (self.pass.log ++ J.earlier) }
     {
         let Sole {
             shared,

@@ -6,13 +6,18 @@
 //! what was there. Where memory or the journal is wanting in the middle of an operation nothing is added, and the
 //! operation stays open. Its actor can then do no other, and the next one comes to its place.
 //!
-//! In reading order: `turns`, `sole`, `acts`, `joining`, `closing`.
+//! In reading order: `turns`, `sole`, `acts`, `rebuilding`, `tending`, `asking`, `missing`,
+//! `joining`, `closing`.
 #![tactic(auto)]
 
 mod acts;
+mod asking;
 mod closing;
 mod joining;
+mod missing;
+mod rebuilding;
 mod sole;
+mod tending;
 mod turns;
 
 pub use acts::Performed;

@@ -18,6 +18,6 @@ pub returns-clause-left : goal.returns-clause-left
 returns-clause-left g c = λ legal told none may new.
     let there = c.close.result in
     subst (λ (s : StoreView). MayOpenAgain s.volume s.log → IfSome there.journal (AreLeft g.D.Disk.image s.volume s.log new there.disks.items)) c.self.view_is
-    (λ again. journal-left g.D.Disk.image (volume_in g.J.Naming.kind) (c.self.inside.sole.pass.log ++ g.J.Naming.earlier) new there.disks.items there.journal there.refusal none (c.stands.ensures.legal legal) again
+    (λ again. journal-left g.D.Disk.image (volume_in g.J.Naming.kind) (c.self.inside.sole.pass.log ++ g.J.Naming.earlier) new there.disks.items there.journal there.refusal none (c.stands.ensures.legal legal) (c.close.ensures.texts legal) again
     (c.close.ensures.disks legal) (c.close.ensures.journal legal told))
     may

@@ -11,9 +11,10 @@ use Rattle.rz_chronicle.specs.Keys.{IsLater}
 use Rattle.rz_chronicle.specs.Kinds.{volume_in}
 use Rattle.rz_store_turns.specs.Performed.{HasCome}
 use Rattle.rz_store.specs.Causes.{IsWriteCause}
-use Rattle.rz_store.specs.Store.{StoreView, IfLegal, LooksSame, HasPut}
+use Rattle.rz_store.specs.Store.{StoreView, IfLegal, LooksSame, HasPut, HasPublished}
 use Rattle.rz_store.proofs.Looks.{self-same, later-self, later-then}
 use Rattle.rz_store.proofs.Wholes.{on-err, view, whole, same-log, log-later, come-later, quiet-later, ended-same, ended-later, at-word, before-word, ok-if, err-if, cause-if}
+use Rattle.rz_store.proofs.Published.{put-published}
 use Rattle.rz_store.proofs.Puts.{put-cut, put-tells, put-done, put-undone, put-cause}
 use Rattle.rz_store.proofs.store.Store.put.Goals as goal
 
@@ -155,3 +156,20 @@ returns-clause-later g c = λ keeps.
     subst (λ (z : StoreView). IsLater z.log (whole K E last)) c.self.view_is
     (later-then (whole K E old) (whole K E new) (whole K E last) (come-later K E c.in_ok-op.op old new c.in_ok-performed.performed.machine.work c.in_ok-performed.ensures.came)
     (quiet-later K E new last c.conclude-said.ensures.quiet keeps)))
+
+pub returns-clause-published : goal.returns-clause-published
+returns-clause-published g c =
+    let K = g.J.Naming.kind in
+    let E = g.J.Naming.earlier in
+    let old = c.self.inside.sole in
+    let new = c.perform.new.self in
+    let last = c.conclude-said.new.self in
+    let m = c.in_ok-performed.performed.machine in
+    let path = c.args.path.now in
+    let bytes = c.args.bytes.now in
+    let come = subst (λ (op : Operation). HasCome K E op old new m.work) c.in_ok-op.ensures c.in_ok-performed.ensures.came in
+    let told = c.put_told-told.result in
+    subst (λ (z : StoreView). OnOk told (IfLegal K (HasPublished z path c.args.block (view K E last)))) c.self.view_is
+    (ok-if told (HasPublished (view K E old) path c.args.block (view K E last)) (λ keeps.
+    put-published K E path bytes c.args.block (c.leads_to_block.ensures (volume_in K)) old new last m come c.in_ok-performed.ensures.hand keeps
+    c.conclude-said.ensures.quiet told c.put_told-told.ensures))

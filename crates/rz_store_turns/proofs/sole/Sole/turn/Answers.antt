@@ -1,6 +1,6 @@
 use Rattle.std.proofs.Common.{◌≡◌, ◌∙◌, ap, subst}
 use Rattle.rz_store_turns.specs.Sole.{IsInHand, SoleView}
-use Rattle.rz_store_turns.specs.Runs.{HasTurned}
+use Rattle.rz_store_turns.specs.Runs.{HasRun, HasTurned}
 use Rattle.rz_store_turns.proofs.Soles.{all-actors, no-admin, sole-then, bins-room, hand-then, hand-inside, same-turn}
 use Rattle.rz_store_turns.proofs.sole.Sole.turn.Goals as goal
 
@@ -62,3 +62,7 @@ returns-in-Err-clause-hand g c =
 
 pub returns-in-Err-clause-still : goal.returns-in-Err-clause-still
 returns-in-Err-clause-still g c = λ legal. c.in-Err.ensures.still legal ∙ ap (λ (z : SoleView). z.pass.log) c.self.view_is
+
+pub returns-in-Err-clause-stopped : goal.returns-in-Err-clause-stopped
+returns-in-Err-clause-stopped g c =
+    subst (λ (z : SoleView). HasRun g.J.Naming.kind z.number z.pass c.take_turn.new.pass c.args.machine.now c.take_turn.new.machine) c.self.view_is c.in-Err.ensures.stopped
