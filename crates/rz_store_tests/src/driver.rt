@@ -196,8 +196,8 @@ impl<'a> Driver<'a> {
     }
 }
 
-impl<'a> Visitor for Driver<'a> {
-    fn visit<R: Abort + AllocGlobal + Wait, D: Disk, J: Metering>(
+impl<'a, D: Disk> Visitor<D> for Driver<'a> {
+    fn visit<R: Abort + AllocGlobal + Wait, J: Metering>(
         &mut self,
         rt: &R,
         store: &mut Store<D, J>,

@@ -4,10 +4,10 @@
 //! store and gives what they told as plain values, which `names`, `refusals` and `ranges` know. `model` is what a
 //! store ought to hold, in plain code which knows nothing of the contracts. `driver` makes calls beside it while
 //! disks lose their power: at each device call of a few calls in `stops`, and at random in `random`, where disks
-//! come and go too.
+//! come and go too. In `replacing` a node gets a new disk.
 //!
 //! In reading order: `opened`, `calls`, `telling`, `names`, `refusals`, `ranges`, `volumes`, `model`, `driver`,
-//! `stops`, `drawing`, `random`.
+//! `stops`, `drawing`, `random`, `replacing`.
 #![tactic(auto)]
 
 #[cfg(test)]
@@ -28,6 +28,8 @@ mod random;
 mod ranges;
 #[cfg(test)]
 mod refusals;
+#[cfg(test)]
+mod replacing;
 #[cfg(test)]
 mod stops;
 #[cfg(test)]

@@ -48,11 +48,11 @@ pub(super) fn plain_disks<R: Abort + AllocGlobal>(rt: &R, volume: &Volume) -> Di
 }
 
 /// Opens a new store of the plain volume for each of two visitors, one after the other.
-pub(super) fn visit_twice<R: Abort + AllocGlobal + Wait, V: Visitor, W: Visitor>(
-    rt: &R,
-    first: &mut V,
-    second: &mut W,
-) {
+pub(super) fn visit_twice<
+    R: Abort + AllocGlobal + Wait,
+    V: Visitor<PlainDisk>,
+    W: Visitor<PlainDisk>,
+>(rt: &R, first: &mut V, second: &mut W) {
     let volume = Volume::plain(rt.alloc()).expect(rt, "memory");
     let disks = plain_disks(rt, &volume);
     let (disks, fault) = visit(rt, &volume, disks, first);
@@ -71,8 +71,8 @@ struct Names;
 #[derive(Drop)]
 struct NamesAgain;
 
-impl Visitor for Names {
-    fn visit<R: Abort + AllocGlobal + Wait, D: Disk, J: Metering>(
+impl<D: Disk> Visitor<D> for Names {
+    fn visit<R: Abort + AllocGlobal + Wait, J: Metering>(
         &mut self,
         rt: &R,
         store: &mut Store<D, J>,
@@ -125,8 +125,8 @@ impl Visitor for Names {
     }
 }
 
-impl Visitor for NamesAgain {
-    fn visit<R: Abort + AllocGlobal + Wait, D: Disk, J: Metering>(
+impl<D: Disk> Visitor<D> for NamesAgain {
+    fn visit<R: Abort + AllocGlobal + Wait, J: Metering>(
         &mut self,
         rt: &R,
         store: &mut Store<D, J>,

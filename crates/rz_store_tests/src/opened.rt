@@ -23,14 +23,17 @@ use std::snapshot::Snapshot;
 use std::sync::Wait;
 
 /// What uses a store that was opened.
-pub(super) trait Visitor {
+pub(super) trait Visitor<D: Disk> {
+    ghost use Rattle.std.specs.Prelude.{◌≡◌, false};
+
     /// Uses it. `places` say what came of the disk of each node, in the order of the description.
-    fn visit<R: Abort + AllocGlobal + Wait, D: Disk, J: Metering>(
+    fn visit<R: Abort + AllocGlobal + Wait, J: Metering>(
         &mut self,
         rt: &R,
         store: &mut Store<D, J>,
         places: &[Place],
-    );
+    )
+        requires free { J.fixed ≡ false };
 }
 
 /// What came of the disk of a node.
@@ -124,7 +127,7 @@ fn handed_back<R: Abort + AllocGlobal, D: Disk>(
 }
 
 /// Joins what was opened, lets a visitor use it, and lets it go. The journal's disk came so.
-fn use_opened<J: Metering, R: Abort + AllocGlobal + Wait, D: Disk, V: Visitor>(
+fn use_opened<J: Metering, R: Abort + AllocGlobal + Wait, D: Disk, V: Visitor<D>>(
     rt: &R,
     volume: &Volume,
     opened: OpenedDisks<D>,
@@ -148,7 +151,7 @@ fn use_opened<J: Metering, R: Abort + AllocGlobal + Wait, D: Disk, V: Visitor>(
 }
 
 /// Makes a store of what was joined, lets a visitor use it, and lets it go.
-fn use_joined<J: Metering, R: Abort + AllocGlobal + Wait, D: Disk, V: Visitor>(
+fn use_joined<J: Metering, R: Abort + AllocGlobal + Wait, D: Disk, V: Visitor<D>>(
     rt: &R,
     volume: &Volume,
     joined: Joined<D, J>,
@@ -160,6 +163,7 @@ fn use_joined<J: Metering, R: Abort + AllocGlobal + Wait, D: Disk, V: Visitor>(
     requires clients { ArePasses 64 (λ i. a.Client (i + 1)) joined.clients.items }
     requires rebuilders { ArePasses 16 (λ i. a.Rebuilder (i + 1)) joined.rebuilders.items }
     requires texts { IsTrue (keeps_legal J.kind) → AreTextsOfBytes J.earlier }
+    requires free { J.fixed ≡ false }
 {
     match Store::join(rt.alloc(), volume, joined) {
         Ok((mut store, missing)) => {
@@ -174,7 +178,7 @@ fn use_joined<J: Metering, R: Abort + AllocGlobal + Wait, D: Disk, V: Visitor>(
 
 /// Opens a store on its disks, lets a visitor use it, and lets it go. The disks come back, and why the store
 /// was not opened, if it was not.
-pub(super) fn visit<R: Abort + AllocGlobal + Wait, D: Disk, V: Visitor>(
+pub(super) fn visit<R: Abort + AllocGlobal + Wait, D: Disk, V: Visitor<D>>(
     rt: &R,
     volume: &Volume,
     disks: Disks<D>,

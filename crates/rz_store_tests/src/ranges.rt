@@ -96,8 +96,8 @@ fn read_the_ends<R: Abort + AllocGlobal + Wait, D: Disk, J: Metering>(
     reads(rt, store, "/f", (12295, 5), &[0]);
 }
 
-impl Visitor for Ranges {
-    fn visit<R: Abort + AllocGlobal + Wait, D: Disk, J: Metering>(
+impl<D: Disk> Visitor<D> for Ranges {
+    fn visit<R: Abort + AllocGlobal + Wait, J: Metering>(
         &mut self,
         rt: &R,
         store: &mut Store<D, J>,
@@ -115,8 +115,8 @@ impl Visitor for Ranges {
     }
 }
 
-impl Visitor for RangesAgain {
-    fn visit<R: Abort + AllocGlobal + Wait, D: Disk, J: Metering>(
+impl<D: Disk> Visitor<D> for RangesAgain {
+    fn visit<R: Abort + AllocGlobal + Wait, J: Metering>(
         &mut self,
         rt: &R,
         store: &mut Store<D, J>,

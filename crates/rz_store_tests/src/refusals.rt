@@ -166,8 +166,8 @@ fn blocks_are_refused<R: Abort + AllocGlobal + Wait, D: Disk, J: Metering>(
     has_block(rt, store, "/f", LAST, None);
 }
 
-impl Visitor for Refusals {
-    fn visit<R: Abort + AllocGlobal + Wait, D: Disk, J: Metering>(
+impl<D: Disk> Visitor<D> for Refusals {
+    fn visit<R: Abort + AllocGlobal + Wait, J: Metering>(
         &mut self,
         rt: &R,
         store: &mut Store<D, J>,
@@ -197,8 +197,8 @@ impl Visitor for Refusals {
     }
 }
 
-impl Visitor for Unchanged {
-    fn visit<R: Abort + AllocGlobal + Wait, D: Disk, J: Metering>(
+impl<D: Disk> Visitor<D> for Unchanged {
+    fn visit<R: Abort + AllocGlobal + Wait, J: Metering>(
         &mut self,
         rt: &R,
         store: &mut Store<D, J>,

@@ -105,8 +105,8 @@ fn a_stop_at_any_device_call_keeps_what_was_told(rt: HostRuntime) {
 #[derive(Drop)]
 struct Passer;
 
-impl Visitor for Passer {
-    fn visit<R: Abort + AllocGlobal + Wait, D: Disk, J: Metering>(
+impl<D: Disk> Visitor<D> for Passer {
+    fn visit<R: Abort + AllocGlobal + Wait, J: Metering>(
         &mut self,
         _rt: &R,
         _store: &mut Store<D, J>,
@@ -202,8 +202,8 @@ struct Failing<'d, 'a> {
     call: u64,
 }
 
-impl<'d, 'a> Visitor for Failing<'d, 'a> {
-    fn visit<R: Abort + AllocGlobal + Wait, D: Disk, J: Metering>(
+impl<'d, 'a, D: Disk> Visitor<D> for Failing<'d, 'a> {
+    fn visit<R: Abort + AllocGlobal + Wait, J: Metering>(
         &mut self,
         rt: &R,
         store: &mut Store<D, J>,
