@@ -10,7 +10,6 @@ ghost use Rattle.std.specs.Prelude.{◌≡◌, IfOk, IsTrue, length};
 
 mod folder;
 mod idle;
-mod streams;
 mod telling;
 
 use folder::lock_folder;
@@ -22,13 +21,13 @@ use rz_replay::{FilesFault, Kept, files, memory, replay};
 use rz_report::refuse;
 use rz_request::{Command, Refusal, Status, Wanted, WordsError, wanted};
 use rz_run::run;
+use rz_terminal::Fillers;
 use std::alloc::{AllocError, Global};
 use std::io::ErrorKind;
 use std::process::ExitCode;
 use std::sync::Wait;
 use std::thread::Threads;
 use std::{env, io};
-use streams::Fillers;
 use telling::{tell_disks, tell_file, tell_idle, tell_lock, tell_status, tell_usage};
 
 /// The words of the command line.

@@ -5,7 +5,7 @@ use crate::folder::LockFault;
 use clap::Error;
 use rz_disk::FileDisk;
 use rz_request::{Status, parse};
-use std::alloc::{AllocError, Global};
+use rz_terminal::tell;
 use std::io;
 
 /// Which words there are.
@@ -17,31 +17,6 @@ rozo first --disks N --dir FOLDER < SCRIPT       begins a store that is kept: on
 rozo again --disks N --dir FOLDER < SCRIPT       goes on with such a store
 rozo load SEED --disks 16 [--dir FOLDER]         plays a large script that is made from a number
 rozo migrate SID --disks 2 --dir FOLDER < VOLUME carries an old disk of a node over onto a new one";
-
-/// A text with its control characters spelled, but for the ends of lines: so no terminal obeys a name.
-fn printable(alloc: Global, text: &str) -> Result<String, AllocError> {
-    let mut out = String::new(alloc);
-    for c in text.chars() {
-        if c.is_control() && c != '\n' {
-            for spelled in c.escape_default() {
-                out.push(spelled)?;
-            }
-        } else {
-            out.push(c)?;
-        }
-    }
-    Ok(out)
-}
-
-/// Writes a line.
-fn tell(rt: &HostRuntime, line: Result<String, AllocError>) {
-    let Ok(line) = line else {
-        return;
-    };
-    if let Ok(line) = printable(rt.alloc(), line.as_str()) {
-        let _ = eprintln!(rt; "{line}");
-    }
-}
 
 /// Says why a folder is not locked.
 pub fn tell_lock(rt: &HostRuntime, path: &str, fault: &LockFault) {
