@@ -9,6 +9,7 @@ use Rattle.rz_events.specs.declared.keys.Actor.{Actor}
 use Rattle.rz_events.specs.declared.ends.WriteEnd.{WriteEnd}
 use Rattle.rz_events.specs.declared.ends.WriteEnd.TheVariants as write
 use Rattle.rz_events.specs.declared.events.Answer.{Answer}
+use Rattle.rz_events.specs.declared.events.Answer.TheVariants as answer
 use Rattle.rz_events.specs.declared.events.Event.{Event}
 use Rattle.rz_events.specs.declared.events.Event.TheVariants as e
 use Rattle.rz_events.specs.declared.machines.WriterAsk.TheVariants as asks
@@ -20,7 +21,7 @@ use Rattle.rz_client_model.specs.declared.writing.WriteStage.{WriteStage}
 use Rattle.rz_client_model.specs.declared.writing.WriteStage.TheVariants as writing
 use Rattle.rz_client_model.specs.declared.writing.SentRecords.{SentRecords}
 use Rattle.rz_client_model.specs.Write.{mask_of, next_position, writer_ask}
-use Rattle.rz_operation_model.specs.Work.{Work, Course, OnBlock, PutBlock, Opening, Writing, Ending}
+use Rattle.rz_operation_model.specs.Work.{Work, Course, OnBlock, PutBlock, Opening, Writing, Reading, Ending}
 use Rattle.rz_operation_model.specs.Ask.{Say, SayDone, ask_of, is_part, write_asks}
 use Rattle.rz_operation.specs.Machine.{Machine}
 use Rattle.rz_chronicle.specs.Kinds.{keeps_legal, volume_in}
@@ -88,11 +89,24 @@ module _ (names : Tree) (layout : Layout) (by : Actor) (number : ℕ) (path text
     stage-told (writing.Ended end) silent = ended end silent
 
   answered : (a : Answer) → OnOk (put_told (Say (SayDone a))) IsPublishedIn
-  answered (_) = tt
+  answered (answer.Created fid) = tt
+  answered answer.Plain = tt
+  answered (answer.Found kind fid) = tt
+  answered (answer.Attr attr) = tt
+  answered (answer.Names told) = tt
+  answered (answer.Target target) = tt
+  answered (answer.Wrote count) = tt
+  answered (answer.Read told) = tt
+  answered (answer.ShortWrite count end) = tt
+  answered (answer.ShortRead count end) = tt
+  answered (answer.Rebuild end) = tt
+  answered (answer.Refused f) = tt
 
   told-published : (work : Work) → IsOnBlock names path block work → Silent work → OnOk (put_told (ask_of layout work)) IsPublishedIn
   told-published (Opening p plan) on silent = tt
   told-published (Writing course written s) on silent = stage-told course written s.layout s.key s.places s.length on.1 s.stage silent
+  told-published (Reading course s) on silent =
+      absurd (puts_once layout by number path block text xs (Reading course s) (loud layout by number (Opening path (OnBlock (PutBlock block text))) xs (Reading course s) silent))
   told-published (Ending a) on silent = answered a
   told-published (_) on silent = absurd on
 

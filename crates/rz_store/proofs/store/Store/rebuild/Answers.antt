@@ -18,7 +18,7 @@ returns-clause-refilled g c =
     let node : ℕ = c.args.node in
     subst (λ (z : StoreView). IfOk c.rebuild_told.result (λ told. IfLegal K (HasRefilled z node told new))) c.self.view_is
     (subst (λ (r : Result Rebuilt ReplaceFault). IfOk r (λ told. IfLegal K (HasRefilled (view K E c.self.inside.sole) node told new))) (sym c.rebuild_told.ensures)
-    (has-refilled K E c.self.inside.sole c.rebuild.new.self node c.rebuild.result c.rebuild.ensures.ended))
+    (has-refilled K E c.self.inside.sole c.rebuild.new.self node c.rebuild.result c.rebuild.ensures.rebuilt))
 
 pub returns-clause-cause : goal.returns-clause-cause
 returns-clause-cause g c =
@@ -28,7 +28,7 @@ returns-clause-cause g c =
     let node : ℕ = c.args.node in
     subst (λ (z : StoreView). IfErr c.rebuild_told.result (λ f. IfLegal K (IsRebuildCause z node f new))) c.self.view_is
     (subst (λ (r : Result Rebuilt ReplaceFault). IfErr r (λ f. IfLegal K (IsRebuildCause (view K E c.self.inside.sole) node f new))) (sym c.rebuild_told.ensures)
-    (rebuild-cause K E c.self.inside.sole c.rebuild.new.self node c.rebuild.result c.rebuild.ensures.ended))
+    (rebuild-cause K E c.self.inside.sole c.rebuild.new.self node c.rebuild.result c.rebuild.ensures.rebuilt))
 
 pub returns-clause-taken : goal.returns-clause-taken
 returns-clause-taken g c =
