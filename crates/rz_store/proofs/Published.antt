@@ -1,5 +1,5 @@
 -- A put that was done has published its block.
-use Rattle.std.proofs.Common.{ℕ, Bool, true, false, ◌≡◌, List, ◌∷◌, ◌++◌, None, cond, nat_lt, refl, sym, ◌∙◌, ap, subst, append_assoc}
+use Rattle.std.proofs.Common.{ℕ, Bool, true, false, ◌≡◌, List, ◌∷◌, ◌++◌, Option, Some, None, cond, nat_lt, refl, sym, ◌∙◌, ap, subst, append_assoc}
 use Rattle.std.specs.Prelude.{IsTrue, slice_index, Result, Ok, Err, OnOk}
 use Rattle.mj_angles.specs.declared.layout.Layout.{Layout}
 use Rattle.mj_angles.specs.Layout.{forward_of}
@@ -13,6 +13,8 @@ use Rattle.rz_events.specs.declared.events.Answer.TheVariants as answer
 use Rattle.rz_events.specs.declared.events.Event.{Event}
 use Rattle.rz_events.specs.declared.events.Event.TheVariants as e
 use Rattle.rz_events.specs.declared.machines.WriterAsk.TheVariants as asks
+use Rattle.rz_events.specs.declared.machines.ReaderAsk.{ReaderAsk}
+use Rattle.rz_events.specs.declared.machines.ReaderAsk.TheVariants as reads
 use Rattle.rz_events.specs.declared.operations.Datum.TheVariants as datum
 use Rattle.rz_events.specs.declared.operations.Operation.TheVariants as operation
 use Rattle.rz_export_model.specs.Tree.{Tree, Found}
@@ -20,9 +22,11 @@ use Rattle.rz_client_model.specs.declared.writing.WriterState.{WriterState}
 use Rattle.rz_client_model.specs.declared.writing.WriteStage.{WriteStage}
 use Rattle.rz_client_model.specs.declared.writing.WriteStage.TheVariants as writing
 use Rattle.rz_client_model.specs.declared.writing.SentRecords.{SentRecords}
+use Rattle.rz_events.specs.declared.ends.ReadMark.{ReadMark}
+use Rattle.rz_client_model.specs.Read.{reader_ask, reader_end}
 use Rattle.rz_client_model.specs.Write.{mask_of, next_position, writer_ask}
 use Rattle.rz_operation_model.specs.Work.{Work, Course, OnBlock, PutBlock, Opening, Writing, Reading, Ending}
-use Rattle.rz_operation_model.specs.Ask.{Say, SayDone, ask_of, is_part, write_asks}
+use Rattle.rz_operation_model.specs.Ask.{Say, SayDone, ask_of, is_part, read_asks, write_asks}
 use Rattle.rz_operation.specs.Machine.{Machine}
 use Rattle.rz_chronicle.specs.Kinds.{keeps_legal, volume_in}
 use Rattle.rz_core.proofs.Stamps.{same_key-refl}
@@ -89,24 +93,20 @@ module _ (names : Tree) (layout : Layout) (by : Actor) (number : ℕ) (path text
     stage-told (writing.Ended end) silent = ended end silent
 
   answered : (a : Answer) → OnOk (put_told (Say (SayDone a))) IsPublishedIn
-  answered (answer.Created fid) = tt
-  answered answer.Plain = tt
-  answered (answer.Found kind fid) = tt
-  answered (answer.Attr attr) = tt
-  answered (answer.Names told) = tt
-  answered (answer.Target target) = tt
-  answered (answer.Wrote count) = tt
-  answered (answer.Read told) = tt
-  answered (answer.ShortWrite count end) = tt
-  answered (answer.ShortRead count end) = tt
-  answered (answer.Rebuild end) = tt
   answered (answer.Refused f) = tt
+  answered (_) = tt
+
+  reading : (part : Bool) (key : Key) (end : Option ReadMark) (question : ReaderAsk) → OnOk (put_told (read_asks part key end question)) IsPublishedIn
+  reading part key end reads.Look = tt
+  reading part key end (reads.Fetch position n stamp) = tt
+  reading part key end reads.Recheck = tt
+  reading part key None reads.End = tt
+  reading part key (Some mark) reads.End = tt
 
   told-published : (work : Work) → IsOnBlock names path block work → Silent work → OnOk (put_told (ask_of layout work)) IsPublishedIn
   told-published (Opening p plan) on silent = tt
   told-published (Writing course written s) on silent = stage-told course written s.layout s.key s.places s.length on.1 s.stage silent
-  told-published (Reading course s) on silent =
-      absurd (puts_once layout by number path block text xs (Reading course s) (loud layout by number (Opening path (OnBlock (PutBlock block text))) xs (Reading course s) silent))
+  told-published (Reading course s) on silent = reading (is_part course) s.key (reader_end s) (reader_ask s)
   told-published (Ending a) on silent = answered a
   told-published (_) on silent = absurd on
 
