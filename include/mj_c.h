@@ -13,10 +13,10 @@
  * `answers` and `room` overlap nothing else.
  *
  * Memory. The caller owns all that is passed, and the library keeps nothing of it after the call, and no
- * state either, so calls from several threads need no lock. mj_c_solve of more than two rows, mj_c_solve_many and
- * mj_c_solve_eight take room by malloc and give it back by free before they return. Calls that end in
- * `_in` work in room that the caller lends, mj_c_room(layout) words or more; what is in it does not matter,
- * so one room serves any number of calls, one after the other. All others take none.
+ * state either, so calls from several threads need no lock. mj_c_solve_eight takes room by malloc and gives it back by
+ * free before it returns. Calls that end in `_in` work in room that the caller lends, mj_c_room(layout) words or more;
+ * what is in it does not matter, so one room serves any number of calls, one after the other. All others take none;
+ * mj_c_solve and mj_c_solve_many want up to 40 KB of the stack.
  *
  * Answers. Every call but mj_c_bins, mj_c_room and mj_c_lead answers one of enum mj_c_answer. What is refused
  * is tested in this order: the layout; the positions, all of them; that they rise; the lengths, and how many
@@ -95,9 +95,8 @@ uint32_t mj_c_solve(uint32_t layout, const uint32_t *positions, size_t count, co
                     size_t all, uint64_t *out, size_t words);
 
 /* Writes as many blocks as `out` has room for, one after the other. `bins` has the projections of the
- * first block, then those of the second, and so on. Room is taken once for all blocks. After
- * MJ_C_INCONSISTENT, which says that some block has no words, `out` holds any words; anything else but
- * MJ_C_DONE leaves it as it was. */
+ * first block, then those of the second, and so on. After MJ_C_INCONSISTENT, which says that some block has
+ * no words, `out` holds any words; anything else but MJ_C_DONE leaves it as it was. */
 uint32_t mj_c_solve_many(uint32_t layout, const uint32_t *positions, size_t count,
                          const uint64_t *bins, size_t all, uint64_t *out, size_t words);
 

@@ -89,7 +89,7 @@ fn find_together(
 }
 
 /// The bins behind those of the first `m` projections, which stand one after the other.
-fn bins_from<'a>(layout: Layout, positions: &[u32], bins: &'a [u64], m: usize) -> &'a [u64]
+pub fn bins_from<'a>(layout: Layout, positions: &[u32], bins: &'a [u64], m: usize) -> &'a [u64]
     requires { list_all (λ i. nat_lt i (safe_of layout)) positions.now ≡ true }
     ensures { result.now ≡ bins_behind layout m positions.now bins.now }
 {

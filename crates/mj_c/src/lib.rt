@@ -21,6 +21,7 @@ ghost use Rattle.mj_c.specs.Layouts.{layout_at, search_of, search_at, words_of, 
 ghost use Rattle.mj_c.specs.Numbers.{numbers_answer, numbers_of};
 ghost use Rattle.mj_c.specs.Answers.{code_of, project_answer, eight_answer, all_answer, solve_refusal, many_refusal, eight_refusal, lent_refusal, lent_eight_refusal, apart_refusal};
 
+mod alone;
 mod apart;
 mod eight;
 mod forward;
@@ -128,17 +129,11 @@ pub extern "C" fn mj_c_project_eight(
 /// Writes the one block that has these projections into `out`, and leaves `out` as it was otherwise. The
 /// positions are as many as the block has rows, and `bins` has their projections one after the other.
 #[unsafe(no_mangle)]
-pub extern "C" fn mj_c_solve(
-    alloc: Global,
-    layout: u32,
-    positions: &[u32],
-    bins: &[u64],
-    out: &mut [u64],
-) -> u32
+pub extern "C" fn mj_c_solve(layout: u32, positions: &[u32], bins: &[u64], out: &mut [u64]) -> u32
     ensures refused { let refusal = solve_refusal (layout_at layout) positions.now (length bins.now) (length out.old) in
         refusal ≢ Answer.Done → result ≡ code_of refusal }
     ensures tried { solve_refusal (layout_at layout) positions.now (length bins.now) (length out.old) ≡ Answer.Done →
-        (result ≡ 0) ⊎ (result ≡ 5) ⊎ (result ≡ 6) }
+        (result ≡ 0) ⊎ (result ≡ 5) }
     ensures done { result ≡ 0 → IfSome (layout_at layout)
         (λ y. IsFound (search_of y positions.now bins.now) (grid_of (inverse_of y) (cols_of y) out.new)) }
     ensures only { result ≡ 0 → IfSome (layout_at layout)
@@ -147,16 +142,14 @@ pub extern "C" fn mj_c_solve(
         (λ y. (g : Grid) → ¬ IsFound (search_of y positions.now bins.now) g) }
     ensures unchanged { result ≢ 0 → out.new ≡ out.old }
 {
-    inverse::solve_at(alloc, layout, positions, bins, out).code()
+    inverse::solve_at(layout, positions, bins, out).code()
 }
 
 /// Writes into `out` as many blocks as it has room for, one after the other. `bins` has the projections of the
-/// first block at the positions one after the other, then those of the second, and so on. Room is taken
-/// once for them all. Where the answer is 5, some block has no words, and `out` holds any words. After any
-/// other answer but 0 it is as it was.
+/// first block at the positions one after the other, then those of the second, and so on. Where the answer is 5, some
+/// block has no words, and `out` holds any words. After any other answer but 0 it is as it was.
 #[unsafe(no_mangle)]
 pub extern "C" fn mj_c_solve_many(
-    alloc: Global,
     layout: u32,
     positions: &[u32],
     bins: &[u64],
@@ -165,14 +158,14 @@ pub extern "C" fn mj_c_solve_many(
     ensures refused { let refusal = many_refusal (layout_at layout) positions.now (length bins.now) (length out.old) in
         refusal ≢ Answer.Done → result ≡ code_of refusal }
     ensures tried { many_refusal (layout_at layout) positions.now (length bins.now) (length out.old) ≡ Answer.Done →
-        (result ≡ 0) ⊎ (result ≡ 5) ⊎ (result ≡ 6) }
+        (result ≡ 0) ⊎ (result ≡ 5) }
     ensures done { result ≡ 0 → IfSome (layout_at layout)
         (λ y. (i : ℕ) → i < length out.old / words_of y → IsAnswered y positions.now bins.now out.new i) }
     ensures none { result ≡ 5 → IfSome (layout_at layout)
         (λ y. (i : ℕ) × (i < length out.old / words_of y) × ((g : Grid) → ¬ IsFound (search_at y positions.now bins.now i) g)) }
     ensures unchanged { result ≢ 0 → result ≢ 5 → out.new ≡ out.old }
 {
-    many::solve_many_at(alloc, layout, positions, bins, out).code()
+    many::solve_many_at(layout, positions, bins, out).code()
 }
 
 /// Writes the blocks of as many groups of eight as `answers` has bytes. Word `j` of block `i` of a group stands in

@@ -11,30 +11,13 @@ ghost use Rattle.mj_c.specs.Answers.{is_ascending_from};
 use mj_angles::Layout;
 use mj_inverse_two::solve_two;
 
-/// Looks for one block of two rows, with room for a row of its layout.
-pub fn find_two(layout: Layout, positions: &[u32], bins: &[u64], out: &mut [u64]) -> bool
-    requires two { inverse_of layout ≡ 2 }
-    requires positions { list_all (λ i. nat_lt i (safe_of layout)) positions.now ≡ true }
-    requires ascending { is_ascending_from 0 positions.now ≡ true }
-    requires count { length positions.now ≡ inverse_of layout }
-    requires bins { length bins.now ≡ sum_by (bins_at_of layout) positions.now }
-    requires room { length out.old ≡ words_of layout }
-    ensures found { result ≡ true → IsFound (search_of layout positions.now bins.now) (grid_of (inverse_of layout) (cols_of layout) out.new) }
-    ensures only { result ≡ true → (g : Grid) →
-        IsFound (search_of layout positions.now bins.now) g → g ≡ grid_of (inverse_of layout) (cols_of layout) out.new }
-    ensures none { result ≡ false → (g : Grid) → ¬ IsFound (search_of layout positions.now bins.now) g }
-    ensures unchanged { result ≡ false → out.new ≡ out.old }
-{
-    match layout.cols() {
-        256 => find_in::<288>(layout, positions, bins, out),
-        512 => find_in::<544>(layout, positions, bins, out),
-        1024 => find_in::<1056>(layout, positions, bins, out),
-        _ => find_in::<2080>(layout, positions, bins, out),
-    }
-}
-
-/// The same with room for `N` words.
-fn find_in<const N: usize>(layout: Layout, positions: &[u32], bins: &[u64], out: &mut [u64]) -> bool
+/// Looks for one block of two rows, with room for `N` words.
+pub fn find_rows<const N: usize>(
+    layout: Layout,
+    positions: &[u32],
+    bins: &[u64],
+    out: &mut [u64],
+) -> bool
     requires row { N ≡ 32 + cols_of layout }
     requires two { inverse_of layout ≡ 2 }
     requires positions { list_all (λ i. nat_lt i (safe_of layout)) positions.now ≡ true }

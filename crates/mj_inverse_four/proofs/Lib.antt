@@ -7,3 +7,5 @@ pub mod Found
 pub mod Angled
 pub mod Blocks
 pub mod Taken
+pub mod Filled
+pub mod Fourfold

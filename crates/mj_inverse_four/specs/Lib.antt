@@ -1,3 +1,4 @@
 pub mod Starts
 pub mod Rows
 pub mod Fragments
+pub mod One

@@ -20,10 +20,7 @@ loop-i-preserved c =
     let long : length c.loop-i.out ≡ c.args.blocks * words_of y = c.loop-i.auto.out ∙ c.requires.room in
     let all : length c.loop-i.out ≡ c.args.blocks * w = long ∙ ap (λ x. c.args.blocks * x) (sym words) in
     let fits : i * w + w ≤ length c.loop-i.out = (let r = row_fits i w c.args.blocks w few (omega arith) in omega (arith, r, all)) in
-    let room : length c.find_one.new.out ≡ w = (let same = c.find_one.auto.out in search (rules, places)) in
-    record {
-      empty = c.find_one.ensures.empty;
-      found = answered_at y c.args.positions.now c.args.bins.now c.loop-i.out (take (i * each + each - i * each) (drop (i * each) c.args.bins.now)) c.find_one.new.out c.args.blocks i w (i * w + w - i * w) each
-          words (back (i * w) w) c.total_bins-each.ensures few long room refl
-          (c.if-not-find_one.ensures.found refl) (c.if-not-find_one.ensures.only refl) c.loop-i.invariant.found;
-    }
+    let room : length c.find_alone.new.out ≡ w = (let same = c.find_alone.auto.out in search (rules, places)) in
+    answered_at y c.args.positions.now c.args.bins.now c.loop-i.out (take (i * each + each - i * each) (drop (i * each) c.args.bins.now)) c.find_alone.new.out c.args.blocks i w (i * w + w - i * w) each
+    words (back (i * w) w) c.total_bins-each.ensures few long room refl
+    (c.if-not-find_alone.ensures.found refl) (c.if-not-find_alone.ensures.only refl) c.loop-i.invariant

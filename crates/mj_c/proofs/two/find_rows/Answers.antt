@@ -6,7 +6,7 @@ use Rattle.mj_angles.specs.Layout.{angle_of}
 use Rattle.mj_c.proofs.Ascending.{later_above}
 use Rattle.mj_c.proofs.Pair.{bins_of_two, found_two, same_two, searched_two, two_bins}
 use Rattle.mj_c.proofs.Risen.{angle_rises}
-use Rattle.mj_c.proofs.two.find_in.Goals as goal
+use Rattle.mj_c.proofs.two.find_rows.Goals as goal
 
 pub solve_two-requires-clause-rises : goal.solve_two-requires-clause-rises
 solve_two-requires-clause-rises g c =

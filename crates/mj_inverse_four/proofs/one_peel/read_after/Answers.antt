@@ -1,0 +1,19 @@
+use Rattle.mj_inverse_four.proofs.Fourfold.{read_fits}
+use Rattle.mj_inverse_four.proofs.one_peel.read_after.Goals as goal
+
+pub sum_after-sum-requires-clause-within : goal.sum_after-sum-requires-clause-within
+sum_after-sum-requires-clause-within c = λ j h.
+    rw c.requires.room
+    (read_fits c.args.frame.rows c.args.frame.cols c.args.frame.reach c.args.angles.now c.args.lines.now c.args.n c.args.k j c.requires.angles c.requires.lines c.requires.row c.requires.column h)
+
+pub sum_after-sum-requires-clause-before : goal.sum_after-sum-requires-clause-before
+sum_after-sum-requires-clause-before c = c.requires.before
+
+pub sum_after-sum-requires-clause-first : goal.sum_after-sum-requires-clause-first
+sum_after-sum-requires-clause-first c = c.requires.first
+
+pub write_in_turn-requires-clause-sum : goal.write_in_turn-requires-clause-sum
+write_in_turn-requires-clause-sum c = c.sum_after-sum.ensures
+
+pub returns-clause-swept : goal.returns-clause-swept
+returns-clause-swept c = c.write_in_turn.ensures.swept
