@@ -80,19 +80,23 @@ fn new_disks<'a>(
     Ok(disks)
 }
 
-/// Why the disks of a new store were not made.
-fn unmade(alloc: Global, unmade: &Unmade<FileDisk<'_, HostRuntime>>) -> Failure {
-    let disk = match unmade.fault {
-        FormatRefusal::NoMemory => return Failure::NoMemory,
-        FormatRefusal::Journal => &unmade.journal,
-        FormatRefusal::Disk { index } => match unmade.disks.get(index as usize) {
-            Some(disk) => disk,
-            None => return Failure::NoMemory,
-        },
-    };
+/// Why a disk of a new store was not made.
+fn failed(alloc: Global, disk: &FileDisk<'_, HostRuntime>) -> Failure {
     match disk.last_error() {
         Some(error) => of_file(alloc, disk.path(), &error),
         None => Failure::NoMemory,
+    }
+}
+
+/// Why the disks of a new store were not made.
+fn unmade(alloc: Global, unmade: &Unmade<FileDisk<'_, HostRuntime>>) -> Failure {
+    match unmade.fault {
+        FormatRefusal::NoMemory => Failure::NoMemory,
+        FormatRefusal::Journal => failed(alloc, &unmade.journal),
+        FormatRefusal::Disk { index } => match unmade.disks.get(index as usize) {
+            Some(disk) => failed(alloc, disk),
+            None => Failure::NoMemory,
+        },
     }
 }
 
