@@ -26,11 +26,10 @@ fn the_journal_fails(rt: HostRuntime) -> Result<(), Fail> {
     Ok(())
 }
 
-/// So many disks, of which the first reads the byte at this address wrong. The last address is on no disk.
-fn rotten(rt: &(impl Abort + AllocGlobal), count: u64, at: u64) -> Vec<RotDisk<PlainDisk>> {
+/// Four disks, of which the first reads the byte at this address wrong. The last address is on no disk.
+fn rotten(rt: &(impl Abort + AllocGlobal), at: u64) -> Vec<RotDisk<PlainDisk>> {
     let mut disks = Vec::new(rt.alloc());
-    for place in 0..count {
-        let at = if place == 0 { at } else { u64::MAX };
+    for at in [at, u64::MAX, u64::MAX, u64::MAX] {
         push(
             rt,
             &mut disks,
@@ -49,7 +48,7 @@ fn is_told(
     lost: Sent,
     told: &str,
 ) -> bool {
-    let mut disks = rotten(rt, 4, u64::MAX);
+    let mut disks = rotten(rt, u64::MAX);
     let list = vec![in rt.alloc(); (number, lost)].expect(rt, "memory");
     let link = MemLink::new(list);
     let (status, text) = play_over(rt, "rozo replay --disks 4", script, &mut disks, link);
@@ -121,29 +120,10 @@ scrub 00000000-0000-0000-0000-000000000001 0 unsure
 /// A byte of node 1's record.
 #[test]
 fn a_scrub_reads_a_byte_wrong(rt: HostRuntime) -> Result<(), Fail> {
-    let mut disks = rotten(&rt, 4, 2368);
+    let mut disks = rotten(&rt, 2368);
     let (status, text) = play(&rt, "rozo scrub --disks 4", WRITTEN, &mut disks);
     drop(disks);
     let is_told = text.as_str() == UNSURE;
-    drop(text);
-    assert!(rt; status == 0 && is_told);
-    Ok(())
-}
-
-const NAMED: &str = "c1 1 created 00000000-0000-0000-0000-000000000001
-c1 2 acked 1 11111100
-end 12
-scrub 00000000-0000-0000-0000-000000000001 0 altered 10000000
-";
-
-/// Six records came, two more than give the block back, so the altered one is known: it is node 1's, whose third bin
-/// stands at 64 + 128 + 1168 + 48 + 16.
-#[test]
-fn a_scrub_names_the_altered_record(rt: HostRuntime) -> Result<(), Fail> {
-    let mut disks = rotten(&rt, 8, 1424);
-    let (status, text) = play(&rt, "rozo scrub --disks 8", WRITTEN, &mut disks);
-    drop(disks);
-    let is_told = text.as_str() == NAMED;
     drop(text);
     assert!(rt; status == 0 && is_told);
     Ok(())
@@ -159,7 +139,7 @@ end 21
 
 #[test]
 fn an_altered_bin_is_noticed(rt: HostRuntime) -> Result<(), Fail> {
-    let mut disks = rotten(&rt, 4, 2368);
+    let mut disks = rotten(&rt, 2368);
     let script =
         "op c1 create /f\nop c1 put /f 0 t:hello\nop c1 get /f 0\nop c1 put /f 0 t:again\nrest\n";
     let (status, text) = play(&rt, "rozo replay --disks 4", script, &mut disks);
@@ -179,7 +159,7 @@ end 20
 /// The rebuild of node 2 leaves the block.
 #[test]
 fn a_rebuild_leaves_an_altered_block(rt: HostRuntime) -> Result<(), Fail> {
-    let mut disks = rotten(&rt, 4, 2368);
+    let mut disks = rotten(&rt, 2368);
     let script = "op c1 create /f\nop c1 put /f 0 t:hello\nrest\nlose n2\nop r1 rebuild n2\nrest\n";
     let (status, text) = play(&rt, "rozo replay --disks 4", script, &mut disks);
     drop(disks);
